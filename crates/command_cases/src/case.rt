@@ -3,7 +3,7 @@
 use anyhow::bail;
 use bstr::ByteVec;
 use command_runs::run;
-use daap_outside::{MemFiles, MemNet, MemSink, MemSource};
+use outside_net::{MemFiles, MemNet, MemSink, MemSource};
 use std::alloc::{AllocError, Global};
 use std::sync::Wait;
 use std::thread::Threads;

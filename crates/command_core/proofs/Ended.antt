@@ -1,6 +1,6 @@
 -- A run ends as its command's specification says, by what was written; and what the end says if nothing outside failed.
 use Rattle.std.proofs.Common.{Vec, Global, MatchResult, ◌≡◌, ◌⊎◌, ◌++◌, ℕ, List, [], Option, Some, None, Result, Ok, Err, IfSome, IfOk, IfErr, refl, sym, subst, ap, ◌∙◌, inl, inr}
-use Rattle.daap_outside.specs.Counts.{Rose}
+use Rattle.outside_net.specs.Counts.{Rose}
 use Rattle.item_model.specs.declared.changes.Entry.{Entry}
 use Rattle.command_core.specs.declared.fault.Fault.{Fault}
 use Rattle.command_core.specs.declared.fault.Fault.TheVariants.{Own, Read, Memory}
@@ -62,60 +62,61 @@ if_told m status None f = tt
 if_told m status (Some input) f = f input refl
 
 -- the arguments and the input decide a run that ends as its specification says
-pub answered : (m : Meaning) → IsSensible m → (told : Told) (outcome : Outcome) → Ends m told outcome.status (share_of outcome) → IsAnswered m told outcome
-answered m sense told outcome ends = record {
+pub answered : (m : Meaning) → IsSensible m → (told : Told) (outcome : Outcome) → m.always told outcome → Ends m told outcome.status (share_of outcome) → IsAnswered m told outcome
+answered m sense told outcome always ends = record {
   ends = ends;
   decided = λ steady whole.
       if_told m outcome.status told.before.input.left
       (λ input known. decides m sense input told outcome.status (share_of outcome) known steady whole ends.0 ends.1 ends.2);
+  always = always;
 }
 
 -- ---- the ends
 
 -- the command succeeded, and all of its output was written
-pub by_done : (m : Meaning) → IsSensible m → (told : Told) (outcome : Outcome) (output : List ℕ)
+pub by_done : (m : Meaning) → IsSensible m → (told : Told) (outcome : Outcome) (output : List ℕ) → m.always told outcome
     → m.is_done told.before told.after (share_of outcome) output → outcome.status ≡ 0 → IsWritten told.output_before told.output_after output → IsAnswered m told outcome
-by_done m sense told outcome output done s w = answered m sense told outcome (Done output, s, (done, w))
+by_done m sense told outcome output always done s w = answered m sense told outcome always (Done output, s, (done, w))
 
 -- the output failed
-pub by_cut : (m : Meaning) → IsSensible m → (told : Told) (outcome : Outcome) (output : List ℕ)
+pub by_cut : (m : Meaning) → IsSensible m → (told : Told) (outcome : Outcome) (output : List ℕ) → m.always told outcome
     → m.is_begun told.before told.after (share_of outcome) output → outcome.status ≡ 5 → IsCut told.output_before told.output_after output → IsAnswered m told outcome
-by_cut m sense told outcome output begun s w = answered m sense told outcome (OutputCut output, s, (begun, w))
+by_cut m sense told outcome output always begun s w = answered m sense told outcome always (OutputCut output, s, (begun, w))
 
 -- the line of an error ends a run, after what was written before
-by_line : (m : Meaning) → IsSensible m → (told : Told) (mid : OutputSeen) (outcome : Outcome) (front : List ℕ) (fault : Fault m.fault)
+by_line : (m : Meaning) → IsSensible m → (told : Told) (mid : OutputSeen) (outcome : Outcome) (front : List ℕ) (fault : Fault m.fault) → m.always told outcome
     → IsRefused m told (share_of outcome) front fault → IsWritten told.output_before mid front
     → Tells (fault_status m.status fault) (fault_line m.line fault) mid told.output_after outcome.status → IsAnswered m told outcome
-by_line m sense told mid outcome front fault refused w (inl t) =
-    answered m sense told outcome (Refused front fault, t.0, (refused, written_more told.output_before mid told.output_after front (fault_line m.line fault) w t.1))
-by_line m sense told mid outcome front fault refused w (inr t) =
-    answered m sense told outcome (LineCut front fault, t.0, (refused, cut_more told.output_before mid told.output_after front (fault_line m.line fault) w t.1))
+by_line m sense told mid outcome front fault always refused w (inl t) =
+    answered m sense told outcome always (Refused front fault, t.0, (refused, written_more told.output_before mid told.output_after front (fault_line m.line fault) w t.1))
+by_line m sense told mid outcome front fault always refused w (inr t) =
+    answered m sense told outcome always (LineCut front fault, t.0, (refused, cut_more told.output_before mid told.output_after front (fault_line m.line fault) w t.1))
 
 -- the line of out of memory ends a run
-pub by_memory : (m : Meaning) → IsSensible m → (told : Told) (mid : OutputSeen) (outcome : Outcome) (front : List ℕ) (history : Option (List Entry))
+pub by_memory : (m : Meaning) → IsSensible m → (told : Told) (mid : OutputSeen) (outcome : Outcome) (front : List ℕ) (history : Option (List Entry)) → m.always told outcome
     → m.may_want told.before told.after → m.leaves told.before told.after Memory (share_with_of history) → m.is_front told.before told.after Memory front
     → IsWritten told.output_before mid front → TellsMemory history mid told.output_after outcome → IsAnswered m told outcome
-by_memory m sense told mid outcome front history wants share before w t =
-    by_line m sense told mid outcome front Memory (record {
+by_memory m sense told mid outcome front history always wants share before w t =
+    by_line m sense told mid outcome front Memory always (record {
       cause = wants;
       left = subst (λ h. m.leaves told.before told.after Memory (share_with_of h)) (sym t.history) share;
       written = before;
     }) w t.told
 
 -- an error ends the command, and an allocation for its line may fail
-pub by_fault : (m : Meaning) → IsSensible m → (told : Told) (mid : OutputSeen) (outcome : Outcome) (front : List ℕ) (fault : Fault m.fault)
+pub by_fault : (m : Meaning) → IsSensible m → (told : Told) (mid : OutputSeen) (outcome : Outcome) (front : List ℕ) (fault : Fault m.fault) → m.always told outcome
     → IsCause m told.before told.after fault → m.leaves told.before told.after fault no_share → m.is_front told.before told.after fault front
     → IsWritten told.output_before mid front → TellsFault m.line m.status fault mid told.output_after outcome → IsAnswered m told outcome
-by_fault m sense told mid outcome front fault cause unopened before w t = at_line t.told
+by_fault m sense told mid outcome front fault always cause unopened before w t = at_line t.told
   where
     share : m.leaves told.before told.after fault (share_of outcome)
     share = subst (λ h. m.leaves told.before told.after fault (share_with_of h)) (sym t.unopened) unopened
 
     at_line : Tells (fault_status m.status fault) (fault_line m.line fault) mid told.output_after outcome.status ⊎ Tells 9 memory_line mid told.output_after outcome.status
         → IsAnswered m told outcome
-    at_line (inl line) = by_line m sense told mid outcome front fault (record { cause = cause; left = share; written = before }) w line
+    at_line (inl line) = by_line m sense told mid outcome front fault always (record { cause = cause; left = share; written = before }) w line
     at_line (inr line) =
-        by_line m sense told mid outcome front Memory (record {
+        by_line m sense told mid outcome front Memory always (record {
           cause = sense.wants told.before told.after fault cause;
           left = sense.wants_share told.before told.after fault (share_of outcome) share;
           written = sense.wants_front told.before told.after fault front before;
@@ -125,7 +126,7 @@ by_fault m sense told mid outcome front fault cause unopened before w t = at_lin
 pub by_idle : (m : Meaning) → IsSensible m → (told : Told) (outcome : Outcome) → told.after ≡ told.before → TellsMemory None told.output_before told.output_after outcome
     → IsAnswered m told outcome
 by_idle m sense told outcome same t =
-    by_memory m sense told told.output_before outcome [] None
+    by_memory m sense told told.output_before outcome [] None (sense.idle_always told outcome same t)
     (subst (λ after. m.may_want told.before after) (sym same) (sense.idle told.before))
     (subst (λ after. m.leaves told.before after Memory no_share) (sym same) (sense.idle_share told.before))
     (subst (λ after. m.is_front told.before after Memory []) (sym same) (sense.idle_front told.before)) (none_written told.output_before) t
@@ -139,14 +140,14 @@ by_output m once told outcome history bytes done t = at_output t.told
     is_done = subst (λ h. m.is_done told.before told.after (share_with_of h) bytes) (sym t.history) done
 
     at_output : Tells 0 bytes told.output_before told.output_after outcome.status → IsAnswered m told outcome
-    at_output (inl w) = by_done m once.sensible told outcome bytes is_done w.0 w.1
-    at_output (inr w) = by_cut m once.sensible told outcome bytes (once.begun told.before told.after (share_of outcome) bytes is_done) w.0 w.1
+    at_output (inl w) = by_done m once.sensible told outcome bytes (once.always told outcome) is_done w.0 w.1
+    at_output (inr w) = by_cut m once.sensible told outcome bytes (once.always told outcome) (once.begun told.before told.after (share_of outcome) bytes is_done) w.0 w.1
 
 -- the line of its error was written
 pub by_refusal : (m : Meaning) → WritesOnce m → (told : Told) (outcome : Outcome) (fault : Fault m.fault) → IsCause m told.before told.after fault
     → TellsFault m.line m.status fault told.output_before told.output_after outcome → IsAnswered m told outcome
 by_refusal m once told outcome fault cause t =
-    by_fault m once.sensible told told.output_before outcome [] fault cause (once.unopened told.before told.after fault) (once.front told.before told.after fault)
+    by_fault m once.sensible told told.output_before outcome [] fault (once.always told outcome) cause (once.unopened told.before told.after fault) (once.front told.before told.after fault)
     (none_written told.output_before) t
 
 -- the end of a command that opens no share

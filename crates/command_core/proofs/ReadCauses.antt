@@ -1,9 +1,9 @@
 -- Why an input is not read as a batch of records.
 use Rattle.std.proofs.Common.{Vec, Global, ◌≡◌, ◌≢◌, ◌+◌, ◌<◌, ◌≤◌, ℕ, List, length, Err, IfSome, refl}
 use Rattle.std.specs.Io.KnownBytes.{Consumes, IsAtEnd}
-use Rattle.daap_outside.specs.Reading.{ConsumesUpTo, CountsReadFaults}
-use Rattle.daap_outside.specs.declared.reading.ReadError.{ReadError}
-use Rattle.daap_outside.specs.declared.reading.ReadError.TheVariants as reads
+use Rattle.outside_net.specs.Reading.{ConsumesUpTo, CountsReadFaults}
+use Rattle.outside_net.specs.declared.reading.ReadError.{ReadError}
+use Rattle.outside_net.specs.declared.reading.ReadError.TheVariants as reads
 use Rattle.records_import.specs.Table.{table_of}
 use Rattle.records_import.specs.Records.{BatchReads}
 use Rattle.records_import.specs.declared.refusal.RecordError.{RecordError}

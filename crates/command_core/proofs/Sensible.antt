@@ -1,8 +1,10 @@
 -- What a command's specification has to meet, so that its runs end as it says.
-use Rattle.std.proofs.Common.{◌≡◌, ℕ, List, [], Some}
+use Rattle.std.proofs.Common.{◌≡◌, ℕ, List, [], Some, None}
 use Rattle.command_core.specs.declared.fault.Fault.{Fault}
 use Rattle.command_core.specs.declared.fault.Fault.TheVariants.{Memory}
-use Rattle.command_core.specs.Seen.{Seen, ShareSeen, no_share}
+use Rattle.command_core.specs.declared.outcome.Outcome.{Outcome}
+use Rattle.command_core.specs.Seen.{Seen, ShareSeen, Told, no_share}
+use Rattle.command_core.specs.Answers.{TellsMemory}
 use Rattle.command_core.specs.Causes.{Says}
 use Rattle.command_core.specs.Meanings.{Meaning, IsCause}
 
@@ -15,6 +17,7 @@ pub record IsSensible (m : Meaning) : Type 0 where
   pub idle : (seen : Seen) → m.may_want seen seen
   pub idle_front : (seen : Seen) → m.is_front seen seen Memory []
   pub idle_share : (seen : Seen) → m.leaves seen seen Memory no_share
+  pub idle_always : (told : Told) (outcome : Outcome) → told.after ≡ told.before → TellsMemory None told.output_before told.output_after outcome → m.always told outcome
   -- two errors that arguments and input say have one status, and the command does not succeed if they say one
   pub one_status : (input : List ℕ) (one other : m.fault) → Says (m.cause one) input → Says (m.cause other) input → m.status one ≡ m.status other
   pub not_both : (input : List ℕ) (own : m.fault) → Says (m.cause own) input → m.gives input → ⊥
@@ -22,9 +25,10 @@ pub record IsSensible (m : Meaning) : Type 0 where
   pub given : (input : List ℕ) (before after : Seen) (share : ShareSeen) (output : List ℕ) → before.input.left ≡ Some input
       → m.is_done before after share output → m.gives input
 
--- .. of a command that writes once, at its end, and whose own errors leave no share
+-- .. of a command that writes once, at its end, whose own errors leave no share, and of whose runs nothing more is said
 pub record WritesOnce (m : Meaning) : Type 0 where
   pub sensible : IsSensible m
   pub begun : (before after : Seen) (share : ShareSeen) (output : List ℕ) → m.is_done before after share output → m.is_begun before after share output
   pub front : (before after : Seen) (fault : Fault m.fault) → m.is_front before after fault []
   pub unopened : (before after : Seen) (fault : Fault m.fault) → m.leaves before after fault no_share
+  pub always : (told : Told) (outcome : Outcome) → m.always told outcome

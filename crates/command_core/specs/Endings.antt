@@ -1,8 +1,8 @@
 -- How a run of a command ends, by what is known before it and after it.
 use Rattle.std.specs.Prelude.{◌≡◌, ◌⊎◌, ◌++◌, ℕ, List, IfSome}
 use Rattle.std.specs.Io.KnownBytes.{Appends}
-use Rattle.daap_outside.specs.Counts.{Rose}
-use Rattle.daap_outside.specs.Told.{AppendsPrefix}
+use Rattle.outside_net.specs.Counts.{Rose}
+use Rattle.outside_net.specs.Told.{AppendsPrefix}
 use Rattle.command_core.specs.declared.fault.Fault.{Fault}
 use Rattle.command_core.specs.declared.outcome.Outcome.{Outcome}
 use Rattle.command_core.specs.Seen.{OutputSeen, ShareSeen, Told}
@@ -75,3 +75,4 @@ share_of outcome = record { history = outcome.history }
 pub record IsAnswered (m : Meaning) (told : Told) (outcome : Outcome) : Type 0 where
   pub ends : Ends m told outcome.status (share_of outcome)
   pub decided : IsDecided m told outcome.status
+  pub always : m.always told outcome

@@ -1,7 +1,7 @@
 -- The line that a user sees for an error of a command, and the status that the program ends with.
 use Rattle.std.specs.Prelude.{ℕ, List, [], ◌∷◌, ◌++◌, codes}
-use Rattle.daap_outside.specs.declared.reading.ReadError.{ReadError}
-use Rattle.daap_outside.specs.declared.reading.ReadError.TheVariants as reads
+use Rattle.outside_net.specs.declared.reading.ReadError.{ReadError}
+use Rattle.outside_net.specs.declared.reading.ReadError.TheVariants as reads
 use Rattle.command_core.specs.declared.fault.Fault.{Fault}
 use Rattle.command_core.specs.declared.fault.Fault.TheVariants.{Own, Read, Memory}
 

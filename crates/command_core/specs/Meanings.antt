@@ -1,7 +1,8 @@
 -- The specification of a command.
-use Rattle.std.specs.Prelude.{◌≡◌, ℕ, Bool, List, []}
+use Rattle.std.specs.Prelude.{◌≡◌, ℕ, List, []}
 use Rattle.command_core.specs.declared.fault.Fault.{Fault}
-use Rattle.command_core.specs.Seen.{InputSeen, Seen, ShareSeen, IsUnread, no_share}
+use Rattle.command_core.specs.declared.outcome.Outcome.{Outcome}
+use Rattle.command_core.specs.Seen.{InputSeen, Seen, ShareSeen, IsUnread, Told, no_share}
 use Rattle.command_core.specs.Causes.{Cause, StopsBy}
 
 pub record Meaning : Type 1 where
@@ -24,9 +25,8 @@ pub record Meaning : Type 1 where
   pub leaves : Seen → Seen → Fault fault → ShareSeen → Type 0
   -- what it may have read when an allocation fails
   pub may_want : Seen → Seen → Type 0
-  -- whether it leaves files and network unchanged
-  pub leaves_files : Bool
-  pub leaves_net : Bool
+  -- what is true of every run, however it ends
+  pub always : Told → Outcome → Type 0
 
 -- what has to hold if a command ends with `fault`
 abbrev pub IsCause : (m : Meaning) → Seen → Seen → Fault m.fault → Type 0
@@ -39,6 +39,10 @@ writes_nothing_before before after fault front = front ≡ []
 -- .. that opens no share
 abbrev pub leaves_no_share : {F : Type 0} → Seen → Seen → Fault F → ShareSeen → Type 0
 leaves_no_share before after fault share = share ≡ no_share
+
+-- .. of whose runs nothing more is said
+abbrev pub says_no_more : Told → Outcome → Type 0
+says_no_more told outcome = Unit {0}
 
 -- .. that reads its input
 abbrev pub may_read : Seen → Seen → Type 0

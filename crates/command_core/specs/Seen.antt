@@ -1,32 +1,8 @@
 -- What is known at a moment of the input, output, files and network of a run, and of the share that it opened.
 use Rattle.std.specs.Prelude.{◌≡◌, ℕ, Bool, List, Option, Some, None}
-use Rattle.daap_outside.specs.Places.{Contents}
+use Rattle.outside_net.specs.Places.{Contents}
+pub use Rattle.outside_net.specs.Bounds.{InputSeen, OutputSeen, NetSeen, FilesSeen, input_of, output_of, net_of, files_of}
 use Rattle.item_model.specs.declared.changes.Entry.{Entry}
-
--- of the input: the bytes that are left to read, and the error counter
-pub record InputSeen : Type 0 where
-  pub left : Option (List ℕ)
-  pub faults : ℕ
-
--- of the output: the bytes that it took, and the error counter
-pub record OutputSeen : Type 0 where
-  pub taken : Option (List ℕ)
-  pub faults : ℕ
-
--- of the files: the names of which `open` was called, the bytes under each name, and the error counter
-pub record FilesSeen : Type 0 where
-  pub asked : Option (List (List ℕ))
-  pub contents : Option Contents
-  pub faults : ℕ
-
--- of the network: the addresses of the calls of `listen` and `connect`, the closed connections (the bytes sent on each,
--- and whether an error was counted on it), the inputs of connections to come, and the error counter
-pub record NetSeen : Type 0 where
-  pub asked : Option (List (List ℕ × ℕ))
-  pub written : Option (List (List ℕ × Bool))
-  pub door_links : Option (List (List (List ℕ)))
-  pub next_input : Option (List ℕ)
-  pub faults : ℕ
 
 pub record Around : Type 0 where
   pub files : FilesSeen
@@ -69,8 +45,8 @@ abbrev pub files_seen : Option (List (List ℕ)) → Option Contents → ℕ →
 files_seen asked contents faults = record { asked = asked; contents = contents; faults = faults }
 
 abbrev pub net_seen : Option (List (List ℕ × ℕ)) → Option (List (List ℕ × Bool)) → Option (List (List (List ℕ))) → Option (List ℕ) → ℕ → NetSeen
-net_seen asked written door_links next_input faults =
-    record { asked = asked; written = written; door_links = door_links; next_input = next_input; faults = faults }
+net_seen asked written listener_links next_input faults =
+    record { asked = asked; written = written; listener_links = listener_links; next_input = next_input; faults = faults }
 
 -- all of these at a moment
 abbrev pub seen : InputSeen → FilesSeen → NetSeen → Seen

@@ -3,7 +3,7 @@
 ghost use Rattle.std.specs.Prelude.{◌≡◌, ℕ, List, IfOk};
 ghost use Rattle.command_core.specs.Faults.{fault_line, fault_status, read_fault};
 
-use daap_outside::{Failed, ReadError};
+use outside_net::{Failed, ReadError};
 use std::alloc::{AllocError, Global};
 
 /// What ended a command early: one of its own errors, or what may end any command.

@@ -1,12 +1,12 @@
 //! What a command writes at its end, and what the run leaves.
 
 ghost use Rattle.std.specs.Prelude.{◌≡◌, None, MatchResult};
-ghost use Rattle.command_core.specs.Seen.{output_seen};
+ghost use Rattle.command_core.specs.Seen.{output_of};
 ghost use Rattle.command_core.specs.Answers.{Tells, TellsDone, TellsFault, TellsMemory};
 
 use crate::fault::{Fault, Refusal};
-use daap_outside::{Sink, put_all};
 use item_model::Entries;
+use outside_net::{Sink, put_all};
 use std::alloc::Global;
 
 /// What a run leaves: the status of the program, and the history of the share, if it opened one.
@@ -24,12 +24,12 @@ pub fn write_result<W: Sink, E: Refusal + Drop>(
 ) -> Outcome
     ensures { MatchResult answer
         (λ bytes. TellsDone None bytes.items
-        (output_seen (W.taken output.old) (W.faults output.old))
-        (output_seen (W.taken output.new) (W.faults output.new))
+        (output_of W.Sink output.old)
+        (output_of W.Sink output.new)
         result)
         (λ fault. TellsFault E.told_line E.told_status fault
-        (output_seen (W.taken output.old) (W.faults output.old))
-        (output_seen (W.taken output.new) (W.faults output.new))
+        (output_of W.Sink output.old)
+        (output_of W.Sink output.new)
         result) }
 {
     match answer {
@@ -41,8 +41,8 @@ pub fn write_result<W: Sink, E: Refusal + Drop>(
 /// Writes the output of a command that succeeded.
 pub fn write_output<W: Sink>(output: &mut W, bytes: &[u8], history: Option<Entries>) -> Outcome
     ensures { TellsDone history bytes.now
-        (output_seen (W.taken output.old) (W.faults output.old))
-        (output_seen (W.taken output.new) (W.faults output.new))
+        (output_of W.Sink output.old)
+        (output_of W.Sink output.new)
         result }
 {
     Outcome {
@@ -54,8 +54,8 @@ pub fn write_output<W: Sink>(output: &mut W, bytes: &[u8], history: Option<Entri
 /// Writes the line of an error of a command that opened no share, or that of out of memory if an allocation fails.
 pub fn write_error<W: Sink, E: Refusal>(alloc: Global, output: &mut W, fault: &Fault<E>) -> Outcome
     ensures { TellsFault E.told_line E.told_status fault.now
-        (output_seen (W.taken output.old) (W.faults output.old))
-        (output_seen (W.taken output.new) (W.faults output.new))
+        (output_of W.Sink output.old)
+        (output_of W.Sink output.new)
         result }
 {
     match fault.line(alloc) {
@@ -70,8 +70,8 @@ pub fn write_error<W: Sink, E: Refusal>(alloc: Global, output: &mut W, fault: &F
 /// Writes the line of out of memory. Does not allocate.
 pub fn out_of_memory<W: Sink>(output: &mut W, history: Option<Entries>) -> Outcome
     ensures { TellsMemory history
-        (output_seen (W.taken output.old) (W.faults output.old))
-        (output_seen (W.taken output.new) (W.faults output.new))
+        (output_of W.Sink output.old)
+        (output_of W.Sink output.new)
         result }
 {
     Outcome {
@@ -83,8 +83,8 @@ pub fn out_of_memory<W: Sink>(output: &mut W, history: Option<Entries>) -> Outco
 /// Writes `bytes`. Returns `status`, or 5 if the output failed.
 fn write_bytes<W: Sink>(output: &mut W, bytes: &[u8], status: u8) -> u8
     ensures { Tells status bytes.now
-        (output_seen (W.taken output.old) (W.faults output.old))
-        (output_seen (W.taken output.new) (W.faults output.new))
+        (output_of W.Sink output.old)
+        (output_of W.Sink output.new)
         result }
 {
     match put_all(output, bytes) {

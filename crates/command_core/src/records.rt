@@ -3,12 +3,12 @@
 ghost use Rattle.std.specs.Prelude.{◌≡◌, ◌≤◌, length, IfOk, IfErr};
 ghost use Rattle.item_model.specs.Valid.{AreValid};
 ghost use Rattle.records_import.specs.Limits.{most_records};
-ghost use Rattle.command_core.specs.Seen.{input_seen};
+ghost use Rattle.command_core.specs.Seen.{input_of};
 ghost use Rattle.command_core.specs.ReadRecords.{HasReadAs, StopsReading, record_fault};
 
 use crate::fault::{Fault, read_fault};
-use daap_outside::{Source, read_within};
 use item_model::Batch;
+use outside_net::{Source, read_within};
 use records_import::{RecordError, read_batch};
 use std::alloc::Global;
 
@@ -27,13 +27,13 @@ pub enum InputFault {
 /// Reads the input to its end. Returns the batch of its records.
 pub fn read_records<I: Source>(alloc: Global, input: &mut I) -> Result<Batch, Fault<InputFault>>
     ensures reads { IfOk result (λ batch. HasReadAs batch
-        (input_seen (I.left input.old) (I.faults input.old))
-        (input_seen (I.left input.new) (I.faults input.new))) }
+        (input_of I.Source input.old)
+        (input_of I.Source input.new)) }
     ensures valid { IfOk result (λ batch. AreValid batch) }
     ensures few { IfOk result (λ batch. length batch ≤ most_records) }
     ensures cause { IfErr result (λ stop. StopsReading
-        (input_seen (I.left input.old) (I.faults input.old))
-        (input_seen (I.left input.new) (I.faults input.new))
+        (input_of I.Source input.old)
+        (input_of I.Source input.new)
         stop) }
 {
     let bytes = match read_within(alloc, input, RECORDS_LIMIT) {

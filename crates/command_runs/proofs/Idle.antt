@@ -56,7 +56,7 @@ module _ (told : Told) (outcome : Outcome) (same : told.after ≡ told.before) (
   idle_ended : (asked : Option Command) → IsRun asked told outcome
   idle_ended None = idle_alone usage_meaning usage_sense.sensible
   idle_ended (Some (Local command)) = idle_alone (meaning_of command) (sense_of command)
-  idle_ended (Some (Net command)) = idle_net command
+  idle_ended (Some (Net command)) = record { ranged = inr (record { same = same; unlinked = none; memory = t }); ends = idle_net command }
 
 pub idle_run : (asked : Option Command) (told : Told) (outcome : Outcome) (ended : CoreOutcome) → told.after ≡ told.before → core_of outcome ≡ ended → outcome.links ≡ []
     → TellsMemory None told.output_before told.output_after ended → IsRun asked told outcome

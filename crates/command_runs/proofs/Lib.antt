@@ -1,3 +1,7 @@
 pub mod Senses
 pub mod Idle
 pub mod Ranges
+pub mod MetRuns
+pub mod ChainedRuns
+mod KeptRuns
+mod FileRuns

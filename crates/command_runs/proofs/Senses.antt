@@ -30,6 +30,7 @@ usage_sense = record {
     idle = λ seen. record { left = refl; faults = refl };
     idle_front = λ seen. refl;
     idle_share = λ seen. refl;
+    idle_always = λ told outcome same t. tt;
     one_status = λ input one other says said. refl;
     not_both = λ input own says gives. gives;
     given = λ input before after share output told done. done;
@@ -37,6 +38,7 @@ usage_sense = record {
   begun = λ before after share output done. done;
   front = λ before after fault. refl;
   unopened = λ before after fault. refl;
+  always = λ told outcome. tt;
 }
 
 show_senses : (back : Bool) → IsSensible (shows back)

@@ -1,7 +1,8 @@
 -- The specification of each command, a line for each, and how a run of it ends.
-use Rattle.std.specs.Prelude.{◌≡◌, ℕ, Bool, true, false, not, is_some, Option, Some, None}
+use Rattle.std.specs.Prelude.{◌≡◌, ◌⊎◌, ℕ, [], Bool, true, false, not, is_some, Option, Some, None}
 use Rattle.item_model.specs.declared.request.Target.{Target}
 use Rattle.item_model.specs.declared.request.Target.TheVariants.{Items, Container}
+use Rattle.command_core.specs.Answers.{TellsMemory}
 use Rattle.command_core.specs.Endings.{IsAnswered}
 use Rattle.command_core.specs.Meanings.{Meaning}
 use Rattle.command_core.specs.Seen.{IsUnread, Told}
@@ -22,6 +23,7 @@ use Rattle.tag_commands.specs.ShowBack.{show_back_meaning}
 use Rattle.share_commands.specs.ReplayShare.{replay_meaning}
 use Rattle.share_commands.specs.ListShare.{list_meaning}
 use Rattle.share_commands.specs.RehearseShare.{rehearse_meaning}
+use Rattle.daapshare_words.specs.Words.{IsNetRanged}
 use Rattle.daapshare_words.specs.declared.command.Command.{Command}
 use Rattle.daapshare_words.specs.declared.command.Command.TheVariants.{Local, Net}
 use Rattle.daapshare_words.specs.declared.command.LocalCommand.{LocalCommand}
@@ -31,7 +33,7 @@ use Rattle.daapshare_words.specs.declared.command.NetCommand.TheVariants as net
 use Rattle.daapshare_words.specs.declared.relay.RelayWords.{RelayWords}
 use Rattle.daapshare_words.specs.declared.serve.ServeWords.{ServeWords}
 use Rattle.command_runs.specs.declared.outcome.Outcome.{Outcome}
-use Rattle.command_runs.specs.Left.{Unlinked, crew_of, left_by}
+use Rattle.command_runs.specs.Left.{Unlinked, core_of, crew_of, left_by}
 use Rattle.command_runs.specs.Usage.{usage_meaning}
 
 abbrev pub shows : (back : Bool) → Meaning
@@ -98,11 +100,22 @@ IsRunOverNet (net.Follow words) told outcome =
     Unlinked (IsLinkAnswered (follow_meaning words.place words.rounds words.query words.meta (target_of words.list)) told) outcome
 IsRunOverNet (net.Relay words) told outcome = IsRelayed (relaying_of words) told outcome
 
+-- an allocation failed before the arguments were read: nothing was done, and only the line of that was written
+pub record IsIdle (told : Told) (outcome : Outcome) : Type 0 where
+  pub same : told.after ≡ told.before
+  pub unlinked : outcome.links ≡ []
+  pub memory : TellsMemory None told.output_before told.output_after (core_of outcome)
+
+-- .. and the numbers, names and addresses among its arguments are in their ranges, if it read them
+pub record IsNetRun (command : NetCommand) (told : Told) (outcome : Outcome) : Type 0 where
+  pub ranged : IsNetRanged command ⊎ IsIdle told outcome
+  pub ends : IsRunOverNet command told outcome
+
 -- a run ends as the specification of its arguments' command says
 abbrev pub IsRun : Option Command → Told → Outcome → Type 0
 IsRun None told outcome = Unlinked (IsAnswered usage_meaning told) outcome
 IsRun (Some (Local command)) told outcome = Unlinked (IsAnswered (meaning_of command) told) outcome
-IsRun (Some (Net command)) told outcome = IsRunOverNet command told outcome
+IsRun (Some (Net command)) told outcome = IsNetRun command told outcome
 
 -- whether a run leaves files unchanged
 abbrev pub leaves_files : Option Command → Bool

@@ -1,7 +1,7 @@
 -- Arguments that are not a command's: they get the usage text.
-use Rattle.std.specs.Prelude.{ℕ, List, true}
+use Rattle.std.specs.Prelude.{ℕ, List}
 use Rattle.command_core.specs.Causes.{Cause, OfWords}
-use Rattle.command_core.specs.Meanings.{Meaning, writes_nothing_before, leaves_no_share, may_not_read}
+use Rattle.command_core.specs.Meanings.{Meaning, writes_nothing_before, leaves_no_share, may_not_read, says_no_more}
 use Rattle.daapshare_words.specs.Usage.{usage_text}
 use Rattle.command_runs.specs.declared.usage.UsageFault.{UsageFault}
 
@@ -28,6 +28,5 @@ usage_meaning = record {
   is_front = writes_nothing_before;
   leaves = leaves_no_share;
   may_want = may_not_read;
-  leaves_files = true;
-  leaves_net = true;
+  always = says_no_more;
 }

@@ -1,7 +1,7 @@
 //! A run of the program over any input, output, files and network.
 
 ghost use Rattle.std.specs.Prelude.{◌≡◌, true};
-ghost use Rattle.command_core.specs.Seen.{files_seen, input_seen, net_seen, output_seen, seen, told_in};
+ghost use Rattle.command_core.specs.Seen.{files_of, input_of, net_of, output_of, seen, told_in};
 ghost use Rattle.daapshare_words.specs.Grammar.{texts_of};
 ghost use Rattle.daapshare_words.specs.Words.{command_of};
 ghost use Rattle.command_runs.specs.Table.{leaves_files, leaves_net, IsRun};
@@ -11,8 +11,8 @@ use crate::outcome::{Outcome, unlinked};
 use crate::over_net::run_net;
 use crate::usage::UsageFault;
 use command_core::{Fault, out_of_memory, write_error};
-use daap_outside::{Files, Net, Sink, Source};
 use daapshare_words::{Command, WordsError, read_words};
+use outside_net::{Files, Net, Sink, Source};
 use std::alloc::Global;
 use std::sync::Wait;
 use std::thread::Threads;
@@ -45,14 +45,14 @@ pub fn run<R: Threads + Wait + Clock + Sync, I: Source, W: Sink, F: Files, N: Ne
 ) -> Outcome
     ensures answered { IsRun (command_of (texts_of words.now))
         (told_in
-        (seen (input_seen (I.left input.old) (I.faults input.old))
-        (files_seen (F.asked files.old) (F.contents files.old) (F.faults files.old))
-        (net_seen (N.asked net.old) (N.written net.old) (N.door_links net.old) (N.next_input net.old) (N.faults net.old)))
-        (seen (input_seen (I.left input.new) (I.faults input.new))
-        (files_seen (F.asked files.new) (F.contents files.new) (F.faults files.new))
-        (net_seen (N.asked net.new) (N.written net.new) (N.door_links net.new) (N.next_input net.new) (N.faults net.new)))
-        (output_seen (W.taken output.old) (W.faults output.old))
-        (output_seen (W.taken output.new) (W.faults output.new)))
+        (seen (input_of I.Source input.old)
+        (files_of F.Files files.old)
+        (net_of N.Net net.old))
+        (seen (input_of I.Source input.new)
+        (files_of F.Files files.new)
+        (net_of N.Net net.new))
+        (output_of W.Sink output.old)
+        (output_of W.Sink output.new))
         result }
 
     // Only `serve` with a file changes files, and only the commands over the network use that.

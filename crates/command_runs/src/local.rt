@@ -1,7 +1,7 @@
 //! Runs the commands over standard input and output: one function for all, and one for each.
 
 ghost use Rattle.std.specs.Prelude.{◌≡◌};
-ghost use Rattle.command_core.specs.Seen.{Around, input_seen, output_seen, told_beside};
+ghost use Rattle.command_core.specs.Seen.{Around, input_of, output_of, told_beside};
 ghost use Rattle.command_core.specs.Endings.{IsAnswered};
 ghost use Rattle.share_commands.specs.ListShare.{list_meaning};
 ghost use Rattle.share_commands.specs.ReplayShare.{replay_meaning};
@@ -12,10 +12,10 @@ ghost use Rattle.daapshare_words.specs.Words.{IsLocalRanged};
 ghost use Rattle.command_runs.specs.Table.{jsons, meaning_of, shows, target_of, tells_codes};
 
 use command_core::Outcome;
-use daap_outside::{Sink, Source};
 use daapshare_words::{ListWords, LocalCommand, RehearseWords, ReplayWords};
 use item_model::Target;
 use json_commands::{read_json, write_json};
+use outside_net::{Sink, Source};
 use share_commands::{list_share, rehearse_share, replay_script};
 use std::alloc::Global;
 use tag_commands::{check_tags, learn_codes, list_codes, read_shown, show_tags};
@@ -30,10 +30,10 @@ pub fn run_local<I: Source, W: Sink>(
     requires { IsLocalRanged command.now }
     ensures { (around : Around) → IsAnswered (meaning_of command.now)
         (told_beside around
-        (input_seen (I.left input.old) (I.faults input.old))
-        (input_seen (I.left input.new) (I.faults input.new))
-        (output_seen (W.taken output.old) (W.faults output.old))
-        (output_seen (W.taken output.new) (W.faults output.new)))
+        (input_of I.Source input.old)
+        (input_of I.Source input.new)
+        (output_of W.Sink output.old)
+        (output_of W.Sink output.new))
         result }
 {
     match command {
@@ -56,10 +56,10 @@ fn run_list<I: Source, W: Sink>(
 ) -> Outcome
     ensures { (around : Around) → IsAnswered (list_meaning words.now.query words.now.meta (target_of words.now.list))
         (told_beside around
-        (input_seen (I.left input.old) (I.faults input.old))
-        (input_seen (I.left input.new) (I.faults input.new))
-        (output_seen (W.taken output.old) (W.faults output.old))
-        (output_seen (W.taken output.new) (W.faults output.new)))
+        (input_of I.Source input.old)
+        (input_of I.Source input.new)
+        (output_of W.Sink output.old)
+        (output_of W.Sink output.new))
         result }
 {
     list_share(
@@ -76,10 +76,10 @@ fn run_list<I: Source, W: Sink>(
 fn run_show<I: Source, W: Sink>(alloc: Global, back: bool, input: &mut I, output: &mut W) -> Outcome
     ensures { (around : Around) → IsAnswered (shows back)
         (told_beside around
-        (input_seen (I.left input.old) (I.faults input.old))
-        (input_seen (I.left input.new) (I.faults input.new))
-        (output_seen (W.taken output.old) (W.faults output.old))
-        (output_seen (W.taken output.new) (W.faults output.new)))
+        (input_of I.Source input.old)
+        (input_of I.Source input.new)
+        (output_of W.Sink output.old)
+        (output_of W.Sink output.new))
         result }
 {
     match back {
@@ -97,10 +97,10 @@ fn run_codes<I: Source, W: Sink>(
 ) -> Outcome
     ensures { (around : Around) → IsAnswered (tells_codes learn)
         (told_beside around
-        (input_seen (I.left input.old) (I.faults input.old))
-        (input_seen (I.left input.new) (I.faults input.new))
-        (output_seen (W.taken output.old) (W.faults output.old))
-        (output_seen (W.taken output.new) (W.faults output.new)))
+        (input_of I.Source input.old)
+        (input_of I.Source input.new)
+        (output_of W.Sink output.old)
+        (output_of W.Sink output.new))
         result }
 {
     match learn {
@@ -119,10 +119,10 @@ fn run_replay<I: Source, W: Sink>(
     requires { AreReplayWords words.now }
     ensures { (around : Around) → IsAnswered (replay_meaning words.now.keep words.now.name)
         (told_beside around
-        (input_seen (I.left input.old) (I.faults input.old))
-        (input_seen (I.left input.new) (I.faults input.new))
-        (output_seen (W.taken output.old) (W.faults output.old))
-        (output_seen (W.taken output.new) (W.faults output.new)))
+        (input_of I.Source input.old)
+        (input_of I.Source input.new)
+        (output_of W.Sink output.old)
+        (output_of W.Sink output.new))
         result }
 {
     replay_script(alloc, words.keep, words.name.as_str(), input, output)
@@ -138,10 +138,10 @@ fn run_rehearse<I: Source, W: Sink>(
     requires { AreRehearseWords words.now }
     ensures { (around : Around) → IsAnswered (rehearse_meaning words.now.number words.now.batches words.now.size words.now.keep)
         (told_beside around
-        (input_seen (I.left input.old) (I.faults input.old))
-        (input_seen (I.left input.new) (I.faults input.new))
-        (output_seen (W.taken output.old) (W.faults output.old))
-        (output_seen (W.taken output.new) (W.faults output.new)))
+        (input_of I.Source input.old)
+        (input_of I.Source input.new)
+        (output_of W.Sink output.old)
+        (output_of W.Sink output.new))
         result }
 {
     rehearse_share(
@@ -158,10 +158,10 @@ fn run_rehearse<I: Source, W: Sink>(
 fn run_json<I: Source, W: Sink>(alloc: Global, back: bool, input: &mut I, output: &mut W) -> Outcome
     ensures { (around : Around) → IsAnswered (jsons back)
         (told_beside around
-        (input_seen (I.left input.old) (I.faults input.old))
-        (input_seen (I.left input.new) (I.faults input.new))
-        (output_seen (W.taken output.old) (W.faults output.old))
-        (output_seen (W.taken output.new) (W.faults output.new)))
+        (input_of I.Source input.old)
+        (input_of I.Source input.new)
+        (output_of W.Sink output.old)
+        (output_of W.Sink output.new))
         result }
 {
     match back {

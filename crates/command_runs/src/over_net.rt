@@ -2,7 +2,7 @@
 
 ghost use Rattle.std.specs.Prelude.{◌≡◌, Some, true};
 ghost use Rattle.daapshare_words.specs.declared.command.Command.TheVariants.{Net as OverNet};
-ghost use Rattle.command_core.specs.Seen.{files_seen, input_seen, net_seen, output_seen, seen, told_in};
+ghost use Rattle.command_core.specs.Seen.{files_of, input_of, net_of, output_of, seen, told_in};
 ghost use Rattle.daapshare_words.specs.Relay.{AreRelayWords};
 ghost use Rattle.daapshare_words.specs.Serve.{AreServeWords};
 ghost use Rattle.daapshare_words.specs.Words.{IsNetRanged};
@@ -12,9 +12,9 @@ ghost use Rattle.command_runs.specs.Table.{leaves_files, relaying_of, serving_of
 
 use crate::local::target_of;
 use crate::outcome::{Outcome, linked, unlinked};
-use daap_outside::{Files, Net, Sink, Source};
 use daapshare_words::{NetCommand, RelayWords, ServeWords};
 use link_commands::{edit_share, follow_share};
+use outside_net::{Files, Net, Sink, Source};
 use relay_command::{Relaying, relay};
 use serve_command::{Serving, serve};
 use std::alloc::Global;
@@ -35,14 +35,14 @@ pub fn run_net<R: Threads + Wait + Clock + Sync, I: Source, W: Sink, F: Files, N
     requires { IsNetRanged command }
     ensures answered { IsRunOverNet command
         (told_in
-        (seen (input_seen (I.left input.old) (I.faults input.old))
-        (files_seen (F.asked files.old) (F.contents files.old) (F.faults files.old))
-        (net_seen (N.asked net.old) (N.written net.old) (N.door_links net.old) (N.next_input net.old) (N.faults net.old)))
-        (seen (input_seen (I.left input.new) (I.faults input.new))
-        (files_seen (F.asked files.new) (F.contents files.new) (F.faults files.new))
-        (net_seen (N.asked net.new) (N.written net.new) (N.door_links net.new) (N.next_input net.new) (N.faults net.new)))
-        (output_seen (W.taken output.old) (W.faults output.old))
-        (output_seen (W.taken output.new) (W.faults output.new)))
+        (seen (input_of I.Source input.old)
+        (files_of F.Files files.old)
+        (net_of N.Net net.old))
+        (seen (input_of I.Source input.new)
+        (files_of F.Files files.new)
+        (net_of N.Net net.new))
+        (output_of W.Sink output.old)
+        (output_of W.Sink output.new))
         result }
     ensures files { leaves_files (Some (OverNet command)) ≡ true → files.new ≡ files.old }
     ensures open_stays { N.open_count net.new ≡ N.open_count net.old }

@@ -1,5 +1,5 @@
 -- The arguments of `follow`.
-use Rattle.std.specs.Prelude.{◌≡◌, List, [], ◌∷◌, Option, codes, true, option_map, option_and_then}
+use Rattle.std.specs.Prelude.{◌≡◌, List, [], ◌∷◌, Option, IfSome, IsUtf8, codes, true, option_map, option_and_then}
 use Rattle.clap.specs.Words.{Row, Text, first_of}
 use Rattle.daapshare_words.specs.Grammar.{Grammar, command_by}
 use Rattle.daapshare_words.specs.Numbers.{IsWithin, number_within, list_of}
@@ -34,3 +34,5 @@ follow_command words = command_by follow_of follow_grammar words
 pub record AreFollowWords (words : FollowWords) : Type 0 where
   pub place : is_place words.place ≡ true
   pub rounds : IsWithin 1 16384 words.rounds
+  pub query : IfSome words.query IsUtf8
+  pub list : IfSome words.list (IsWithin 1 4294967295)

@@ -11,7 +11,7 @@ use std::alloc::Global;
 
 pub const USAGE: &str = "check";
 
-static PARTS: [(&str, Part); 0] = [];
+pub static PARTS: [(&str, Part); 0] = [];
 
 pub fn read(alloc: Global, words: &[&str]) -> Result<Command, WordsError>
     ensures read { Reads (check_command (texts_of words.now)) result }

@@ -17,7 +17,7 @@ pub struct CodesWords {
     pub learn: bool,
 }
 
-static PARTS: [(&str, Part); 1] = [("learn", Part::Flag)];
+pub static PARTS: [(&str, Part); 1] = [("learn", Part::Flag)];
 
 pub fn read(alloc: Global, words: &[&str]) -> Result<Command, WordsError>
     ensures read { Reads (codes_command (texts_of words.now)) result }

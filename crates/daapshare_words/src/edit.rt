@@ -20,7 +20,7 @@ pub struct EditWords {
     pub stop: bool,
 }
 
-static PARTS: [(&str, Part); 2] = [("place", Part::Place), ("stop", Part::Flag)];
+pub static PARTS: [(&str, Part); 2] = [("place", Part::Place), ("stop", Part::Flag)];
 
 pub fn read(alloc: Global, words: &[&str]) -> Result<Command, WordsError>
     ensures read { Reads (edit_command (texts_of words.now)) result }

@@ -27,7 +27,7 @@ pub struct FollowWords {
     pub list: Option<u32>,
 }
 
-static PARTS: [(&str, Part); 5] = [
+pub static PARTS: [(&str, Part); 5] = [
     ("place", Part::Place),
     ("rounds", Part::Place),
     ("query", Part::Valued),

@@ -1,6 +1,6 @@
 //! Reads the arguments of one command by a `clap` command.
 
-ghost use Rattle.std.specs.Prelude.{◌≡◌, ◌≢◌, Some, None, false, [], IfOk, MatchResult, option_map};
+ghost use Rattle.std.specs.Prelude.{◌≡◌, ◌≢◌, Some, None, false, [], IfOk, IfSome, IsUtf8, MatchResult, option_map};
 ghost use Rattle.clap.specs.Words.{app_of, rule_of, rows_of, first_of, found_of};
 ghost use Rattle.daapshare_words.specs.Grammar.{app_for, grammar_of, is_flagged, rule_for, rows_for, texts_of};
 
@@ -43,7 +43,7 @@ pub fn value_of<'a>(matches: &ArgMatches<'a>, name: &str) -> Option<&'a str>
 }
 
 /// Returns the `clap` command `name`, with long names only and without help or version.
-fn command<'a>(
+pub fn command<'a>(
     alloc: Global,
     name: &'a str,
     parts: &'a [(&'a str, Part)],
@@ -83,7 +83,8 @@ pub fn text_of(
     matches: &ArgMatches<'_>,
     name: &str,
 ) -> Result<Option<Text>, AllocError>
-    ensures { IfOk result (λ t. t ≡ first_of name.now (rows_of (found_of matches.now))) }
+    ensures read { IfOk result (λ t. t ≡ first_of name.now (rows_of (found_of matches.now))) }
+    ensures utf8 { IfOk result (λ t. IfSome t IsUtf8) }
 {
     match value_of(matches, name) {
         Some(text) => Ok(Some(Text::of(alloc, text)?)),

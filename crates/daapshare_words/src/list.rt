@@ -23,7 +23,7 @@ pub struct ListWords {
     pub list: Option<u32>,
 }
 
-static PARTS: [(&str, Part); 3] = [
+pub static PARTS: [(&str, Part); 3] = [
     ("query", Part::Valued),
     ("meta", Part::Valued),
     ("list", Part::Valued),

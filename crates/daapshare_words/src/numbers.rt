@@ -94,7 +94,8 @@ fn one_editor(word: Option<&str>) -> Option<u32>
 /// Returns the id of a container, 1 to 4,294,967,295; `word` is the value of `--list`. Without it, returns
 /// `Some(None)`.
 pub fn list_of(word: Option<&str>) -> Option<Option<u32>>
-    ensures { result ≡ list_of (option_map (λ s. s.now) word.entry) }
+    ensures read { result ≡ list_of (option_map (λ s. s.now) word.entry) }
+    ensures within { IfSome result (λ list. IfSome list (IsWithin 1 4294967295)) }
 {
     match word {
         Some(_) => Some(Some(number_of(word, 1, u32::MAX)?)),

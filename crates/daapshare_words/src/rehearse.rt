@@ -24,7 +24,7 @@ pub struct RehearseWords {
     pub keep: u32,
 }
 
-static PARTS: [(&str, Part); 4] = [
+pub static PARTS: [(&str, Part); 4] = [
     ("number", Part::Place),
     ("batches", Part::Place),
     ("size", Part::Place),

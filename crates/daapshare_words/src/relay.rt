@@ -29,7 +29,7 @@ pub struct RelayWords {
     pub workers: u32,
 }
 
-static PARTS: [(&str, Part); 6] = [
+pub static PARTS: [(&str, Part); 6] = [
     ("upstream", Part::Place),
     ("listen", Part::Place),
     ("rounds", Part::Place),

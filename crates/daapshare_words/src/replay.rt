@@ -21,7 +21,7 @@ pub struct ReplayWords {
     pub name: Text,
 }
 
-static PARTS: [(&str, Part); 2] = [("keep", Part::Valued), ("name", Part::Valued)];
+pub static PARTS: [(&str, Part); 2] = [("keep", Part::Valued), ("name", Part::Valued)];
 
 pub fn read(alloc: Global, words: &[&str]) -> Result<Command, WordsError>
     ensures read { Reads (replay_command (texts_of words.now)) result }

@@ -32,7 +32,7 @@ pub struct ServeWords {
     pub file: Option<Text>,
 }
 
-static PARTS: [(&str, Part); 7] = [
+pub static PARTS: [(&str, Part); 7] = [
     ("listen", Part::Place),
     ("edit", Part::Place),
     ("name", Part::Valued),

@@ -17,7 +17,7 @@ pub struct ShowWords {
     pub back: bool,
 }
 
-static PARTS: [(&str, Part); 1] = [("back", Part::Flag)];
+pub static PARTS: [(&str, Part); 1] = [("back", Part::Flag)];
 
 pub fn read(alloc: Global, words: &[&str]) -> Result<Command, WordsError>
     ensures read { Reads (show_command (texts_of words.now)) result }

@@ -2,12 +2,12 @@
 
 ghost use Rattle.std.specs.Prelude.{◌≡◌, ◌≢◌, ◌↔◌, false, Err, IfErr, OnOk};
 ghost use Rattle.std.specs.Io.KnownBytes.{Appends};
-ghost use Rattle.daap_outside.specs.Counts.{Rose};
-ghost use Rattle.daap_outside.specs.Told.{AppendsPrefix};
+ghost use Rattle.outside_net.specs.Counts.{Rose};
+ghost use Rattle.outside_net.specs.Told.{AppendsPrefix};
 ghost use Rattle.dmap_tags.specs.Spelling.{spelling, is_spellable};
 
-use daap_outside::{Sink, put_all};
 use dmap_tags::{Tag, TagError, encode_into};
+use outside_net::{Sink, put_all};
 use std::alloc::Global;
 use thiserror::Error;
 

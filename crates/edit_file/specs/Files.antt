@@ -4,7 +4,7 @@ use Rattle.std.specs.Prelude.{◌≡◌, ◌≢◌, ◌⊎◌, ℕ, List, [], �
 use Rattle.item_model.specs.declared.changes.Edit.{Edit}
 use Rattle.outside_disks.specs.declared.disk.Disk.{Ghosts}
 use Rattle.outside_disks.specs.declared.faulted.Faulted as faulted
-use Rattle.edit_file.specs.Moments.{Holds}
+use Rattle.edit_file.specs.Moments.{Holds, LeavesOnly}
 use Rattle.edit_file.specs.Standing.{opened, signature, AreFrames, FileStands}
 use Rattle.edit_file.specs.declared.file.EditFile.{EditFile}
 
@@ -28,6 +28,22 @@ StandsWithOrWithout batches batch bytes = FileStands bytes batches ⊎ FileStand
 module _ {D : Type 0} (g : Ghosts D) {f : faulted.Ghosts D} where
   abbrev pub disk_of : EditFile D g f → D
   disk_of file = file.disk
+
+  -- the bytes of its disk, if they are known
+  abbrev pub bytes_of : EditFile D g f → Option (List ℕ)
+  bytes_of file = g.bytes file.disk
+
+  -- the name by which its disk was opened
+  abbrev pub name_of : EditFile D g f → Option (List ℕ)
+  name_of file = g.opened_as file.disk
+
+  -- the error counter of its disk
+  abbrev pub faults_of : EditFile D g f → ℕ
+  faults_of file = f.faults file.disk
+
+  -- every image that a crash may leave of the file, now or at a moment since it was as before, has the property `P`
+  abbrev pub CrashLeavesOnly : EditFile D g f → EditFile D g f → (List ℕ → Type 0) → Type 0
+  CrashLeavesOnly old new P = LeavesOnly g old.disk new.disk P
 
   -- the name by which the disk was opened, if its bytes are known
   abbrev pub place_of : EditFile D g f → Option (List ℕ)

@@ -14,12 +14,15 @@ pub(crate) fn add_behind<D: Disk>(disk: &mut D, closing: u64, frame: &[u8]) -> R
     requires some { 0 < length frame.now }
     requires near { closing < 2 ^ 63 }
     requires inside { IfSome (D.bytes disk.old) (λ b. closing < length b) }
-    ensures added { (front : List ℕ) (shut : ℕ) → length front ≡ closing → Holds D.Disk.own disk.old (front ++ shut ∷ [])
+    ensures added { (front : List ℕ) (shut : ℕ) → length front ≡ closing
+        → Holds D.Disk.own disk.old (front ++ shut ∷ [])
         → OnOk result (Holds D.Disk.own disk.new (front ++ opened ∷ frame.now)) }
-    ensures crash { (front : List ℕ) (shut : ℕ) → length front ≡ closing → Holds D.Disk.own disk.old (front ++ shut ∷ [])
+    ensures crash { (front : List ℕ) (shut : ℕ) → length front ≡ closing
+        → Holds D.Disk.own disk.old (front ++ shut ∷ [])
         → LeavesOnly D.Disk.own disk.old disk.new (IsClosedOrFramed front shut frame.now) }
     ensures near { OnOk result (closing + 1 + length frame.now < 2 ^ 63) }
-    ensures inside { OnOk result (IfSome (D.bytes disk.new) (λ b. closing + length frame.now < length b)) }
+    ensures inside { OnOk result (IfSome (D.bytes disk.new)
+        (λ b. closing + length frame.now < length b)) }
     ensures named { KeepsName D.Disk.own disk.old disk.new }
     ensures count { CountsFaults (D.faults disk.old) (D.faults disk.new) result }
 {

@@ -2,8 +2,7 @@
 ghost use Rattle.std.specs.Prelude.{◌≡◌, ◌↔◌, ℕ, ◌^◌, ◌<◌, List, [], ◌∷◌, ◌++◌, length, true, false, Err, IfSome, OnOk, OnErr, is_err, is_some, MatchResult};
 ghost use Rattle.item_model.specs.declared.changes.Edit.{Edit};
 ghost use Rattle.outside_disks.specs.Counts.{CountsFaults};
-ghost use Rattle.edit_file.specs.Files.{HasBatches, StandsWithOrWithout, disk_of, is_broken};
-ghost use Rattle.edit_file.specs.Moments.{LeavesOnly};
+ghost use Rattle.edit_file.specs.Files.{CrashLeavesOnly, HasBatches, StandsWithOrWithout, bytes_of, disk_of, faults_of, is_broken, name_of};
 
 use crate::adding::add_behind;
 use crate::file::EditFile;
@@ -34,16 +33,17 @@ impl<D: Disk + Drop> EditFile<D> {
             → OnOk result (HasBatches D.Disk.own self.new (batches ++ frame ∷ [])) }
         ensures kept { (batches : List (List Edit)) → HasBatches D.Disk.own self.old batches
             → OnErr result (HasBatches D.Disk.own self.new batches) }
-        ensures crash { (batches : List (List Edit)) → is_broken D.Disk.own self.old ≡ false → HasBatches D.Disk.own self.old batches
-            → IfSome (D.bytes (disk_of D.Disk.own self.old))
-            (λ _. LeavesOnly D.Disk.own (disk_of D.Disk.own self.old) (disk_of D.Disk.own self.new) (StandsWithOrWithout batches frame)) }
+        ensures crash { (batches : List (List Edit)) → is_broken D.Disk.own self.old ≡ false
+            → HasBatches D.Disk.own self.old batches → IfSome (bytes_of D.Disk.own self.old) (λ _.
+            CrashLeavesOnly D.Disk.own self.old self.new (StandsWithOrWithout batches frame)) }
         ensures broken { result ≡ Err AppendError.Broken ↔ (is_broken D.Disk.own self.old ≡ true) }
         ensures unchanged { result ≡ Err AppendError.Broken → self.new ≡ self.old }
         ensures breaks { is_broken D.Disk.own self.new ≡ is_err result }
-        ensures told_stays { is_some (D.bytes (disk_of D.Disk.own self.new)) ≡ is_some (D.bytes (disk_of D.Disk.own self.old)) }
-        ensures name_stays { D.opened_as (disk_of D.Disk.own self.new) ≡ D.opened_as (disk_of D.Disk.own self.old) }
+        ensures told_stays { is_some (bytes_of D.Disk.own self.new)
+            ≡ is_some (bytes_of D.Disk.own self.old) }
+        ensures name_stays { name_of D.Disk.own self.new ≡ name_of D.Disk.own self.old }
         ensures count { is_broken D.Disk.own self.old ≡ false
-            → CountsFaults (D.faults (disk_of D.Disk.own self.old)) (D.faults (disk_of D.Disk.own self.new)) result }
+            → CountsFaults (faults_of D.Disk.own self.old) (faults_of D.Disk.own self.new) result }
     {
         if self.is_broken {
             return Err(AppendError::Broken);

@@ -3,7 +3,7 @@ ghost use Rattle.std.specs.Prelude.{◌≡◌, ◌≢◌, List, [], ◌∷◌, �
 ghost use Rattle.item_model.specs.declared.changes.Edit.{Edit};
 ghost use Rattle.outside_disks.specs.Counts.{CountsFaults};
 ghost use Rattle.records_import.specs.Written.{IsReadable};
-ghost use Rattle.edit_file.specs.Files.{HasBatches, disk_of, is_broken, place_of};
+ghost use Rattle.edit_file.specs.Files.{HasBatches, faults_of, is_broken, place_of};
 
 use crate::file::EditFile;
 use crate::frame::Frame;
@@ -19,7 +19,7 @@ impl<D: Disk + Drop> Keeps for EditFile<D> {
 
     ghost is_lost = { λ file. is_broken D.Disk.own file };
 
-    ghost faults = { λ file. D.faults (disk_of D.Disk.own file) };
+    ghost faults = { λ file. faults_of D.Disk.own file };
 
     ghost place = { λ file. place_of D.Disk.own file };
 

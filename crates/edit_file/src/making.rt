@@ -11,7 +11,8 @@ use outside_disks::{Disk, Failed};
 /// Makes an unfinished file with `len` bytes a finished one without batches.
 pub(crate) fn make<D: Disk>(disk: &mut D, len: u64) -> Result<(), Failed>
     requires known { IfSome (D.bytes disk.old) (λ b. length b ≡ len) }
-    ensures made { (bytes : List ℕ) → IsUnmade bytes → Holds D.Disk.own disk.old bytes → OnOk result (Holds D.Disk.own disk.new empty_file) }
+    ensures made { (bytes : List ℕ) → IsUnmade bytes → Holds D.Disk.own disk.old bytes
+        → OnOk result (Holds D.Disk.own disk.new empty_file) }
     ensures crash { (bytes : List ℕ) → IsUnmade bytes → Holds D.Disk.own disk.old bytes
         → LeavesOnly D.Disk.own disk.old disk.new (λ image. FileStands image []) }
     ensures named { KeepsName D.Disk.own disk.old disk.new }
@@ -26,7 +27,8 @@ fn begin<D: Disk>(disk: &mut D, len: u64) -> Result<(), Failed>
     requires known { IfSome (D.bytes disk.old) (λ b. length b ≡ len) }
     ensures begun { (bytes : List ℕ) → IsUnmade bytes → Holds D.Disk.own disk.old bytes
         → OnOk result ((begun : List ℕ) × IsBegun begun × Holds D.Disk.own disk.new begun) }
-    ensures crash { (bytes : List ℕ) → IsUnmade bytes → Holds D.Disk.own disk.old bytes → LeavesOnly D.Disk.own disk.old disk.new IsUnmade }
+    ensures crash { (bytes : List ℕ) → IsUnmade bytes → Holds D.Disk.own disk.old bytes
+        → LeavesOnly D.Disk.own disk.old disk.new IsUnmade }
     ensures inside { OnOk result (IfSome (D.bytes disk.new) (λ b. 1 ≤ length b)) }
     ensures named { KeepsName D.Disk.own disk.old disk.new }
     ensures count { CountsFaults (D.faults disk.old) (D.faults disk.new) result }
@@ -40,7 +42,8 @@ fn begin<D: Disk>(disk: &mut D, len: u64) -> Result<(), Failed>
 // Writes all but the first byte, and then opens the first.
 fn make_begun<D: Disk>(disk: &mut D) -> Result<(), Failed>
     requires inside { IfSome (D.bytes disk.old) (λ b. 1 ≤ length b) }
-    ensures made { (bytes : List ℕ) → IsBegun bytes → Holds D.Disk.own disk.old bytes → OnOk result (Holds D.Disk.own disk.new empty_file) }
+    ensures made { (bytes : List ℕ) → IsBegun bytes → Holds D.Disk.own disk.old bytes
+        → OnOk result (Holds D.Disk.own disk.new empty_file) }
     ensures crash { (bytes : List ℕ) → IsBegun bytes → Holds D.Disk.own disk.old bytes
         → LeavesOnly D.Disk.own disk.old disk.new (λ image. FileStands image []) }
     ensures named { KeepsName D.Disk.own disk.old disk.new }

@@ -31,13 +31,19 @@ impl<D: Disk + Drop> EditFile<D> {
         ensures filled { IfOk result (λ r. All (λ batch. batch ≢ []) r.1.items) }
         ensures valid { IfOk result (λ r. All AreValid r.1.items) }
         ensures sound { IfOk result (λ r. is_broken D.Disk.own r.0 ≡ false) }
-        ensures breaks { (at : ℕ) → IfErr result (λ e. e.0 ≡ FileError.NotEditFile at → IfSome (D.bytes disk) (λ b. BreaksAt b at)) }
-        ensures unchanged { IfErr result (λ e. e.0 ≢ FileError.Failed → IsSameDisk D.Disk.own disk e.1) }
-        ensures crash { (bytes : List ℕ) (batches : List (List Edit)) → FileStands bytes batches → Holds D.Disk.own disk bytes
-            → LeavesOnly D.Disk.own disk (disk_after D.Disk.own result) (λ image. FileStands image batches) }
-        ensures told_stays { is_some (D.bytes (disk_after D.Disk.own result)) ≡ is_some (D.bytes disk) }
+        ensures breaks { (at : ℕ) → IfErr result (λ e. e.0 ≡ FileError.NotEditFile at
+            → IfSome (D.bytes disk) (λ b. BreaksAt b at)) }
+        ensures unchanged { IfErr result (λ e. e.0 ≢ FileError.Failed
+            → IsSameDisk D.Disk.own disk e.1) }
+        ensures crash { (bytes : List ℕ) (batches : List (List Edit)) → FileStands bytes batches
+            → Holds D.Disk.own disk bytes
+            → LeavesOnly D.Disk.own disk (disk_after D.Disk.own result)
+            (λ image. FileStands image batches) }
+        ensures told_stays { is_some (D.bytes (disk_after D.Disk.own result))
+            ≡ is_some (D.bytes disk) }
         ensures name_stays { D.opened_as (disk_after D.Disk.own result) ≡ D.opened_as disk }
-        ensures count { CountsOpenError (D.faults disk) (D.faults (disk_after D.Disk.own result)) result }
+        ensures count { CountsOpenError (D.faults disk) (D.faults (disk_after D.Disk.own result))
+            result }
     {
         let mut disk = disk;
         match settle(alloc, &mut disk) {
@@ -56,14 +62,18 @@ impl<D: Disk + Drop> EditFile<D> {
 
 // Brings the file to rest, and returns the offset of its closing byte and its batches.
 fn settle<D: Disk>(alloc: Global, disk: &mut D) -> Result<(u64, Vec<Batch>), FileError>
-    ensures stands { (b : List ℕ) → D.bytes disk.old ≡ Some b → IfOk result (λ r. FileStands b r.1.items) }
-    ensures rests { (b : List ℕ) → D.bytes disk.old ≡ Some b → IfOk result (λ r. (c : List ℕ) × AtRest c r.0 r.1.items × Holds D.Disk.own disk.new c) }
+    ensures stands { (b : List ℕ) → D.bytes disk.old ≡ Some b
+        → IfOk result (λ r. FileStands b r.1.items) }
+    ensures rests { (b : List ℕ) → D.bytes disk.old ≡ Some b
+        → IfOk result (λ r. (c : List ℕ) × AtRest c r.0 r.1.items × Holds D.Disk.own disk.new c) }
     ensures near { IfOk result (λ r. r.0 < 2 ^ 63) }
     ensures filled { IfOk result (λ r. All (λ batch. batch ≢ []) r.1.items) }
     ensures valid { IfOk result (λ r. All AreValid r.1.items) }
-    ensures breaks { (b : List ℕ) (at : ℕ) → D.bytes disk.old ≡ Some b → result ≡ Err (FileError.NotEditFile at) → BreaksAt b at }
+    ensures breaks { (b : List ℕ) (at : ℕ) → D.bytes disk.old ≡ Some b
+        → result ≡ Err (FileError.NotEditFile at) → BreaksAt b at }
     ensures unchanged { LeavesRefused D.Disk.own disk.old disk.new result }
-    ensures crash { (b : List ℕ) (batches : List (List Edit)) → FileStands b batches → Holds D.Disk.own disk.old b
+    ensures crash { (b : List ℕ) (batches : List (List Edit)) → FileStands b batches
+        → Holds D.Disk.own disk.old b
         → LeavesOnly D.Disk.own disk.old disk.new (λ image. FileStands image batches) }
     ensures named { KeepsName D.Disk.own disk.old disk.new }
     ensures count { CountsOpening (D.faults disk.old) (D.faults disk.new) result }
@@ -78,7 +88,8 @@ fn settle<D: Disk>(alloc: Global, disk: &mut D) -> Result<(u64, Vec<Batch>), Fil
 
 // Makes safe what the disk has, and returns its length.
 fn measure<D: Disk>(disk: &mut D) -> Result<u64, Failed>
-    ensures held { (b : List ℕ) → D.bytes disk.old ≡ Some b → IfOk result (λ len. (length b ≡ len) × Holds D.Disk.own disk.new b) }
+    ensures held { (b : List ℕ) → D.bytes disk.old ≡ Some b
+        → IfOk result (λ len. (length b ≡ len) × Holds D.Disk.own disk.new b) }
     ensures known { IfOk result (λ len. IfSome (D.bytes disk.new) (λ b. length b ≡ len)) }
     ensures short { IfOk result (λ len. len < 2 ^ 63) }
     ensures stays { OnlyReads D.Disk.own disk.old disk.new result }
@@ -90,7 +101,8 @@ fn measure<D: Disk>(disk: &mut D) -> Result<u64, Failed>
 
 // Returns whether a file of `len` bytes was not finished.
 fn is_unmade<D: Disk>(disk: &mut D, len: u64) -> Result<bool, Failed>
-    ensures exact { (b : List ℕ) → length b ≡ len → D.bytes disk.old ≡ Some b → IfOk result (λ it. MatchBool it (IsUnmade b) (IsUnmade b → ⊥)) }
+    ensures exact { (b : List ℕ) → length b ≡ len → D.bytes disk.old ≡ Some b
+        → IfOk result (λ it. MatchBool it (IsUnmade b) (IsUnmade b → ⊥)) }
     ensures stays { OnlyReads D.Disk.own disk.old disk.new result }
     ensures count { CountsFaults (D.faults disk.old) (D.faults disk.new) result }
 {
@@ -129,16 +141,18 @@ fn has_head<D: Disk>(disk: &mut D) -> Result<bool, Failed>
 fn read_made<D: Disk>(alloc: Global, disk: &mut D, len: u64) -> Result<(u64, Vec<Batch>), FileError>
     requires short { len < 2 ^ 63 }
     requires known { IfSome (D.bytes disk.old) (λ b. length b ≡ len) }
-    ensures stands { (b : List ℕ) → Holds D.Disk.own disk.old b → IfOk result (λ r. FileStands b r.1.items) }
+    ensures stands { (b : List ℕ) → Holds D.Disk.own disk.old b
+        → IfOk result (λ r. FileStands b r.1.items) }
     ensures rests { (b : List ℕ) → Holds D.Disk.own disk.old b
         → IfOk result (λ r. (c : List ℕ) × AtRest c r.0 r.1.items × Holds D.Disk.own disk.new c) }
     ensures near { IfOk result (λ r. r.0 < 2 ^ 63) }
     ensures filled { IfOk result (λ r. All (λ batch. batch ≢ []) r.1.items) }
     ensures valid { IfOk result (λ r. All AreValid r.1.items) }
-    ensures breaks { (b : List ℕ) (at : ℕ) → (IsUnmade b → ⊥) → Holds D.Disk.own disk.old b → result ≡ Err (FileError.NotEditFile at)
-        → BreaksAt b at }
+    ensures breaks { (b : List ℕ) (at : ℕ) → (IsUnmade b → ⊥) → Holds D.Disk.own disk.old b
+        → result ≡ Err (FileError.NotEditFile at) → BreaksAt b at }
     ensures unchanged { LeavesRefused D.Disk.own disk.old disk.new result }
-    ensures crash { (b : List ℕ) (batches : List (List Edit)) → FileStands b batches → Holds D.Disk.own disk.old b
+    ensures crash { (b : List ℕ) (batches : List (List Edit)) → FileStands b batches
+        → Holds D.Disk.own disk.old b
         → LeavesOnly D.Disk.own disk.old disk.new (λ image. FileStands image batches) }
     ensures named { KeepsName D.Disk.own disk.old disk.new }
     ensures count { CountsOpening (D.faults disk.old) (D.faults disk.new) result }
@@ -158,13 +172,14 @@ fn read_frames<D: Disk>(
     len: u64,
 ) -> Result<(u64, Vec<Batch>), FileError>
     requires short { len < 2 ^ 63 }
-    ensures found { (b rest : List ℕ) → length b ≡ len → D.bytes disk.old ≡ Some b → b ≡ opened ∷ signature ++ rest
-        → IfOk result (λ r. ClosesAt b r.0 r.1.items) }
+    ensures found { (b rest : List ℕ) → length b ≡ len → D.bytes disk.old ≡ Some b
+        → b ≡ opened ∷ signature ++ rest → IfOk result (λ r. ClosesAt b r.0 r.1.items) }
     ensures near { IfOk result (λ r. r.0 < 2 ^ 63) }
     ensures filled { IfOk result (λ r. All (λ batch. batch ≢ []) r.1.items) }
     ensures valid { IfOk result (λ r. All AreValid r.1.items) }
-    ensures breaks { (b rest : List ℕ) (at : ℕ) → length b ≡ len → D.bytes disk.old ≡ Some b → b ≡ opened ∷ signature ++ rest
-        → result ≡ Err (FileError.NotEditFile at) → IsNoFrame b at }
+    ensures breaks { (b rest : List ℕ) (at : ℕ) → length b ≡ len → D.bytes disk.old ≡ Some b
+        → b ≡ opened ∷ signature ++ rest → result ≡ Err (FileError.NotEditFile at)
+        → IsNoFrame b at }
     ensures unchanged { LeavesRefused D.Disk.own disk.old disk.new result }
     ensures stays { OnlyReads D.Disk.own disk.old disk.new result }
     ensures count { CountsOpening (D.faults disk.old) (D.faults disk.new) result }

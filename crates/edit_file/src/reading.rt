@@ -55,7 +55,8 @@ pub(crate) fn read_frame<D: Disk>(
 ) -> Result<Found, FileError>
     requires near { at < 2 ^ 63 }
     requires short { len < 2 ^ 63 }
-    ensures exact { IfOk result (λ found. IfSome (D.bytes disk.old) (λ b. length b ≡ len → IsFound (drop at b) found)) }
+    ensures exact { IfOk result (λ found. IfSome (D.bytes disk.old)
+        (λ b. length b ≡ len → IsFound (drop at b) found)) }
     ensures within { IfOk result (λ found. IsWithin at len found) }
     ensures usable { IfOk result IsUsable }
     ensures whole { (at' : ℕ) → result ≡ Err (FileError.NotEditFile at') → ⊥ }
@@ -110,7 +111,8 @@ fn read_payload<D: Disk>(
     count: u32,
 ) -> Result<Option<Vec<u8>>, FileError>
     requires near { at < 2 ^ 63 }
-    ensures exact { IfOk result (λ o. IfSome (D.bytes disk.old) (λ b. IsPayload b at count (option_map (λ v. v.items) o))) }
+    ensures exact { IfOk result (λ o. IfSome (D.bytes disk.old)
+        (λ b. IsPayload b at count (option_map (λ v. v.items) o))) }
     ensures whole { (at' : ℕ) → result ≡ Err (FileError.NotEditFile at') → ⊥ }
     ensures unchanged { LeavesRefused D.Disk.own disk.old disk.new result }
     ensures stays { OnlyReads D.Disk.own disk.old disk.new result }

@@ -10,7 +10,8 @@ use outside_disks::{Disk, Failed};
 pub(crate) fn write_safely<D: Disk>(disk: &mut D, at: u64, piece: &[u8]) -> Result<(), Failed>
     requires some { 0 < length piece.now }
     requires inside { IfSome (D.bytes disk.old) (λ b. at ≤ length b) }
-    ensures written { OnOk result (D.bytes disk.new ≡ option_map (λ b. overlaid b at piece.now) (D.bytes disk.old)) }
+    ensures written { OnOk result (D.bytes disk.new
+        ≡ option_map (λ b. overlaid b at piece.now) (D.bytes disk.old)) }
     ensures safe { OnOk result (Only (D.bytes disk.new) (D.images disk.new)) }
     ensures far { 2 ^ 63 ≤ at + length piece.now → IsErr result }
     ensures does { Does D.Disk.own (Torn at (length piece.now)) disk.old disk.new }

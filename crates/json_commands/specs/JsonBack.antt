@@ -13,7 +13,7 @@ use Rattle.command_core.specs.declared.fault.Fault.{Fault}
 use Rattle.command_core.specs.declared.fault.Fault.TheVariants as fault
 use Rattle.command_core.specs.Seen.{InputSeen}
 use Rattle.command_core.specs.Causes.{Cause, OfInput, StopsBy}
-use Rattle.command_core.specs.Meanings.{Meaning, writes_nothing_before, leaves_no_share, may_read}
+use Rattle.command_core.specs.Meanings.{Meaning, writes_nothing_before, leaves_no_share, may_read, says_no_more}
 use Rattle.json_commands.specs.declared.json_back.LineFault.{LineFault}
 use Rattle.json_commands.specs.declared.json_back.LineFault.TheVariants.{Line, TooLong}
 use Rattle.json_commands.specs.Whole.{IsWithin, IsTooLong, IsGiven}
@@ -83,8 +83,7 @@ json_back_meaning = record {
   is_front = writes_nothing_before;
   leaves = leaves_no_share;
   may_want = may_read;
-  leaves_files = true;
-  leaves_net = true;
+  always = says_no_more;
 }
 
 -- why the command stops; an allocation may fail at any time

@@ -1,23 +1,21 @@
 //! The command `json`: the JSON of each top-level tag of the input.
 
-ghost use Rattle.std.specs.Prelude.{◌≡◌, ◌≢◌, ◌++◌, ◌∷◌, [], ℕ, List, IfOk, IfErr, IfSome, MatchResult, OnOk, length, ◌+◌, ◌<◌, ◌^◌};
-ghost use Rattle.serde_json.specs.Written.{compact_text};
+ghost use Rattle.std.specs.Prelude.{◌≡◌, ◌≢◌, ◌++◌, [], ℕ, List, IfOk, IfErr, IfSome, MatchResult, OnOk, length, ◌+◌, ◌<◌, ◌^◌};
 ghost use Rattle.code_table.specs.Standard.{standard_rows};
-ghost use Rattle.dmap_json.specs.TagObject.{json_of};
 ghost use Rattle.dmap_stream.specs.Reader.{ready, taken};
-ghost use Rattle.command_core.specs.Seen.{Around, input_seen, output_seen, told_beside, no_share};
+ghost use Rattle.command_core.specs.Seen.{Around, input_of, output_of, told_beside, no_share};
 ghost use Rattle.command_core.specs.Endings.{IsAnswered};
 ghost use Rattle.json_commands.specs.Whole.{IsWithin, IsGiven};
-ghost use Rattle.json_commands.specs.Json.{GivesJson, HasTagsFault, IsTagsFault, StopsJson, TakesTag, json_meaning};
+ghost use Rattle.json_commands.specs.Json.{GivesJson, HasTagsFault, IsTagsFault, StopsJson, TakesTag, json_line, json_meaning};
 ghost use Rattle.json_commands.specs.Fed.{Feeds, HasFed};
 
 use crate::whole::{INPUT_LIMIT, TAG_LIMITS};
 use code_table::CodeTable;
 use command_core::{Fault, Outcome, read_fault, write_result};
-use daap_outside::{Sink, Source, read_within};
 use dmap_json::to_json;
 use dmap_stream::{DmapReader, StreamError, read_tag};
 use dmap_tags::Tag;
+use outside_net::{Sink, Source, read_within};
 use std::alloc::{AllocError, Global};
 use tag_commands::TagsFault;
 
@@ -25,10 +23,10 @@ use tag_commands::TagsFault;
 pub fn write_json<I: Source, W: Sink>(alloc: Global, input: &mut I, output: &mut W) -> Outcome
     ensures { (around : Around) → IsAnswered json_meaning
         (told_beside around
-        (input_seen (I.left input.old) (I.faults input.old))
-        (input_seen (I.left input.new) (I.faults input.new))
-        (output_seen (W.taken output.old) (W.faults output.old))
-        (output_seen (W.taken output.new) (W.faults output.new)))
+        (input_of I.Source input.old)
+        (input_of I.Source input.new)
+        (output_of W.Sink output.old)
+        (output_of W.Sink output.new))
         result }
 {
     let answer = input_lines(alloc, input);
@@ -38,12 +36,12 @@ pub fn write_json<I: Source, W: Sink>(alloc: Global, input: &mut I, output: &mut
 /// Reads the input to its end. Returns the lines of its tags.
 fn input_lines<I: Source>(alloc: Global, input: &mut I) -> Result<Vec<u8>, Fault<TagsFault>>
     ensures given { IfOk result (λ lines. IsGiven GivesJson
-        (input_seen (I.left input.old) (I.faults input.old))
-        (input_seen (I.left input.new) (I.faults input.new))
+        (input_of I.Source input.old)
+        (input_of I.Source input.new)
         no_share lines.items) }
     ensures cause { IfErr result (λ fault. StopsJson
-        (input_seen (I.left input.old) (I.faults input.old))
-        (input_seen (I.left input.new) (I.faults input.new))
+        (input_of I.Source input.old)
+        (input_of I.Source input.new)
         fault) }
 {
     let bytes = match read_within(alloc, input, INPUT_LIMIT) {
@@ -93,7 +91,8 @@ fn push_first<'a>(
     lines: &mut Vec<u8>,
 ) -> Result<Option<&'a [u8]>, AllocError>
     requires { table.now ≡ standard_rows }
-    ensures { IfOk result (λ r. IfSome r (λ rest. TakesTag bytes.now rest.now lines.old.items lines.new.items)) }
+    ensures { IfOk result (λ r. IfSome r (λ rest.
+        TakesTag bytes.now rest.now lines.old.items lines.new.items)) }
 {
     let (tag, len) = match read_tag(alloc, bytes, table, TAG_LIMITS) {
         Ok(found) => found,
@@ -112,7 +111,7 @@ fn push_line(
     tag: Tag,
     lines: &mut Vec<u8>,
 ) -> Result<(), AllocError>
-    ensures { OnOk result (lines.new.items ≡ lines.old.items ++ (compact_text (json_of tag) ++ 10 ∷ [])) }
+    ensures { OnOk result (lines.new.items ≡ lines.old.items ++ json_line tag) }
 {
     // A tag that was read fits the table, so only an allocation fails here.
     let Ok(text) = to_json(alloc, &tag, table) else {
@@ -160,7 +159,8 @@ fn feed_some<'a>(reader: &mut DmapReader, bytes: &'a [u8]) -> Result<&'a [u8], S
 /// Drops the events that are ready.
 fn skip_events(reader: &mut DmapReader)
     ensures quiet { ready reader.new ≡ [] }
-    ensures same { (reader.new.rows ≡ reader.old.rows) × ((reader.new.limit ≡ reader.old.limit) × (reader.new.error ≡ reader.old.error)) }
+    ensures same { (reader.new.rows ≡ reader.old.rows)
+        × ((reader.new.limit ≡ reader.old.limit) × (reader.new.error ≡ reader.old.error)) }
     ensures read { (fed : List ℕ) → HasFed fed reader.old → HasFed fed reader.new }
 {
     while reader.next().is_some() {}

@@ -3,7 +3,7 @@
 ghost use Rattle.std.specs.Prelude.{◌≡◌, ◌≢◌, ◌++◌, [], IfOk, IfErr, MatchOption, OnOk};
 ghost use Rattle.code_table.specs.Standard.{standard_rows};
 ghost use Rattle.dmap_tags.specs.Spelling.{spelling};
-ghost use Rattle.command_core.specs.Seen.{Around, input_seen, output_seen, told_beside, no_share};
+ghost use Rattle.command_core.specs.Seen.{Around, input_of, output_of, told_beside, no_share};
 ghost use Rattle.command_core.specs.Endings.{IsAnswered};
 ghost use Rattle.json_commands.specs.Whole.{IsWithin, IsGiven};
 ghost use Rattle.json_commands.specs.JsonBack.{line_text, line_status, GivesTags, IsLinesFault, StopsAfter, StopsBack, TakesLine, json_back_meaning};
@@ -12,9 +12,9 @@ use crate::lines::{split_line, tag_of};
 use crate::whole::INPUT_LIMIT;
 use code_table::CodeTable;
 use command_core::{Fault, Outcome, Refusal, read_fault, write_result};
-use daap_outside::{Sink, Source, read_within};
 use dmap_tags::{Tag, encode_into};
 use fault_lines::push_number;
+use outside_net::{Sink, Source, read_within};
 use std::alloc::{AllocError, Global};
 
 /// Why an input is refused.
@@ -59,10 +59,10 @@ fn numbered_line(alloc: Global, number: u64) -> Result<Vec<u8>, AllocError>
 pub fn read_json<I: Source, W: Sink>(alloc: Global, input: &mut I, output: &mut W) -> Outcome
     ensures { (around : Around) → IsAnswered json_back_meaning
         (told_beside around
-        (input_seen (I.left input.old) (I.faults input.old))
-        (input_seen (I.left input.new) (I.faults input.new))
-        (output_seen (W.taken output.old) (W.faults output.old))
-        (output_seen (W.taken output.new) (W.faults output.new)))
+        (input_of I.Source input.old)
+        (input_of I.Source input.new)
+        (output_of W.Sink output.old)
+        (output_of W.Sink output.new))
         result }
 {
     let answer = input_tags(alloc, input);
@@ -72,12 +72,12 @@ pub fn read_json<I: Source, W: Sink>(alloc: Global, input: &mut I, output: &mut 
 /// Reads the input to its end. Returns the bytes of the tags that its lines read as.
 fn input_tags<I: Source>(alloc: Global, input: &mut I) -> Result<Vec<u8>, Fault<LineFault>>
     ensures given { IfOk result (λ bytes. IsGiven GivesTags
-        (input_seen (I.left input.old) (I.faults input.old))
-        (input_seen (I.left input.new) (I.faults input.new))
+        (input_of I.Source input.old)
+        (input_of I.Source input.new)
         no_share bytes.items) }
     ensures cause { IfErr result (λ fault. StopsBack
-        (input_seen (I.left input.old) (I.faults input.old))
-        (input_seen (I.left input.new) (I.faults input.new))
+        (input_of I.Source input.old)
+        (input_of I.Source input.new)
         fault) }
 {
     let text = match read_within(alloc, input, INPUT_LIMIT) {

@@ -14,7 +14,8 @@ use std::str::from_utf8;
 /// Returns the first line of `text` without its line feed, and what follows; `None` if there is no line feed.
 pub(crate) fn split_line(text: &[u8]) -> Option<(&[u8], &[u8])>
     ensures { MatchOption result (has 10 text.now ≡ false)
-        (λ r. (has 10 text.now ≡ true) × ((r.0.now ≡ before 10 text.now) × (r.1.now ≡ behind 10 text.now))) }
+        (λ r. (has 10 text.now ≡ true)
+        × ((r.0.now ≡ before 10 text.now) × (r.1.now ≡ behind 10 text.now))) }
 {
     for place in 0..text.len() {
         if text[place] == b'\n' {

@@ -1,4 +1,4 @@
-//! The limits of both commands.
+//! How long the input of `json` and `json --back` may be, since both read it whole.
 
 use dmap_stream::Limits;
 

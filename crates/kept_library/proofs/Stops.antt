@@ -16,7 +16,7 @@ use Rattle.share_core.specs.Opened.{if_filled}
 use Rattle.share_core.proofs.Opening.{batches-opened}
 use Rattle.kept_library.specs.Faults.{file_fault}
 use Rattle.kept_library.specs.Closing.{LeavesAt, Puts, PutsBatches}
-use Rattle.kept_library.specs.Opening.{CountsFault, CountsStop, LeavesRefused, LeavesStanding, StandsAt, StopsOpening, StopsShare, bytes_at, share_of}
+use Rattle.kept_library.specs.Opening.{CountsFault, CountsStop, LeavesFirst, LeavesRefused, LeavesStanding, StandsAt, StopsOpening, StopsShare, bytes_at, share_of}
 use Rattle.kept_library.specs.declared.fault.FileFault.{FileFault}
 use Rattle.kept_library.specs.declared.fault.FileFault.TheVariants.{NotEditFile, Failed, TooManyEdits, TooManyLists}
 
@@ -47,23 +47,35 @@ stands_still : (before now : Option Contents) (path : List ℕ) (bs : List (List
 stands_still None now path bs stood left other stands = tt
 stands_still (Some c) now path bs stood left other stands = subst (λ l. PutsBatches path l c now) (one_list (bytes_at c path) bs other stood stands) left
 
-pub leaves_file : (before now : Option Contents) (path : List ℕ) (error : FileError)
-    → (error ≢ refusal.Failed → IfSome before (λ c. Puts path (bytes_at c path) c now)) → LeavesRefused before now path (file_fault error)
-leaves_file before now path (refusal.NotEditFile at) left = left (λ is. absurd (cc))
-leaves_file before now path refusal.Failed left = tt
-leaves_file before now path refusal.Memory left = same_stands before now path (left (λ is. absurd (cc)))
+-- a call failed, but not the append
+failed_standing : (before now : Option Contents) (path : List ℕ) (first : List Edit) → LeavesStanding path before now → (now ≡ before) ⊎ LeavesFirst path first before now
+failed_standing before now path first left = inr (λ bs stood. inl (left bs stood))
 
-pub leaves_share : (before now : Option Contents) (path : List ℕ) (bs all : List (List Edit)) (stop : Fault FileFault) → StandsAt before path bs → StopsShare all stop
-    → (stop ≡ fault.Own Failed) ⊎ LeavesAt path bs before now → LeavesRefused before now path stop
-leaves_share before now path bs all (fault.Own (NotEditFile at)) stood stops left = absurd stops
-leaves_share before now path bs all (fault.Own Failed) stood stops left = tt
-leaves_share before now path bs all (fault.Own TooManyEdits) stood stops (inl failed) = absurd (cc)
-leaves_share before now path bs all (fault.Own TooManyEdits) stood stops (inr left) = record { batches = bs; stood = stood; left = left }
-leaves_share before now path bs all (fault.Own TooManyLists) stood stops (inl failed) = absurd (cc)
-leaves_share before now path bs all (fault.Own TooManyLists) stood stops (inr left) = record { batches = bs; stood = stood; left = left }
-leaves_share before now path bs all fault.Read stood stops left = tt
-leaves_share before now path bs all fault.Memory stood stops (inl failed) = absurd (cc)
-leaves_share before now path bs all fault.Memory stood stops (inr left) = stands_still before now path bs stood left
+-- .. or the append
+failed_first : (before now : Option Contents) (path : List ℕ) (first : List Edit) (bs : List (List Edit)) → StandsAt before path bs
+    → LeavesAt path bs before now ⊎ LeavesAt path (bs ++ if_filled first) before now → (now ≡ before) ⊎ LeavesFirst path first before now
+failed_first None now path first bs stood left = inr (λ other stands. inl tt)
+failed_first (Some c) now path first bs stood left =
+    inr (λ other stands. subst (λ l. LeavesAt path l (Some c) now ⊎ LeavesAt path (l ++ if_filled first) (Some c) now) (one_list (bytes_at c path) bs other stood stands) left)
+
+pub leaves_file : (before now : Option Contents) (path : List ℕ) (first : List Edit) (error : FileError)
+    → (error ≢ refusal.Failed → IfSome before (λ c. Puts path (bytes_at c path) c now)) → LeavesStanding path before now → LeavesRefused before now path first (file_fault error)
+leaves_file before now path first (refusal.NotEditFile at) same left = same (λ is. absurd (cc))
+leaves_file before now path first refusal.Failed same left = failed_standing before now path first left
+leaves_file before now path first refusal.Memory same left = same_stands before now path (same (λ is. absurd (cc)))
+
+pub leaves_share : (before now : Option Contents) (path : List ℕ) (first : List Edit) (bs all : List (List Edit)) (stop : Fault FileFault) → StandsAt before path bs → StopsShare all stop
+    → LeavesAt path bs before now ⊎ ((stop ≡ fault.Own Failed) × (LeavesAt path bs before now ⊎ LeavesAt path (bs ++ if_filled first) before now)) → LeavesRefused before now path first stop
+leaves_share before now path first bs all (fault.Own (NotEditFile at)) stood stops left = absurd stops
+leaves_share before now path first bs all (fault.Own Failed) stood stops (inl left) = failed_first before now path first bs stood (inl left)
+leaves_share before now path first bs all (fault.Own Failed) stood stops (inr failed) = failed_first before now path first bs stood failed.1
+leaves_share before now path first bs all (fault.Own TooManyEdits) stood stops (inl left) = record { batches = bs; stood = stood; left = left }
+leaves_share before now path first bs all (fault.Own TooManyEdits) stood stops (inr failed) = absurd (let is : fault.Own TooManyEdits ≡ fault.Own Failed = failed.0 in cc)
+leaves_share before now path first bs all (fault.Own TooManyLists) stood stops (inl left) = record { batches = bs; stood = stood; left = left }
+leaves_share before now path first bs all (fault.Own TooManyLists) stood stops (inr failed) = absurd (let is : fault.Own TooManyLists ≡ fault.Own Failed = failed.0 in cc)
+leaves_share before now path first bs all fault.Read stood stops left = tt
+leaves_share before now path first bs all fault.Memory stood stops (inl left) = stands_still before now path bs stood left
+leaves_share before now path first bs all fault.Memory stood stops (inr failed) = absurd (let is : fault.Memory ≡ fault.Own Failed = failed.0 in cc)
 
 -- a refusal that does not come from a call on the file leaves the error counter unchanged
 pub counts_nothing : {T : Type 0} (n : ℕ) (r : Result T (Fault FileFault)) → IfErr r (CountsFault n n) → CountsStop n n r

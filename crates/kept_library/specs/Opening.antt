@@ -1,5 +1,5 @@
 -- A share that is opened with the batches of a file and with one more batch, which the file then keeps too.
-use Rattle.std.specs.Prelude.{◌≡◌, ℕ, ◌<◌, ◌≤◌, List, [], ◌++◌, length, false, Option, Some, IfSome, unwrap_or, Result, MatchResult}
+use Rattle.std.specs.Prelude.{◌≡◌, ◌⊎◌, ℕ, ◌<◌, ◌≤◌, List, [], ◌++◌, length, false, Option, Some, IfSome, unwrap_or, Result, MatchResult}
 use Rattle.std.specs.FinMap as finite
 use Rattle.item_model.specs.declared.changes.Edit.{Edit}
 use Rattle.outside_disks.specs.Contents.{Contents}
@@ -13,6 +13,7 @@ use Rattle.share_replies.specs.Settings.{Settings}
 use Rattle.share_core.specs.Opened.{opened_with, if_filled, LeaveFewLists, LeaveManyLists}
 use Rattle.edit_file.specs.Files.{HasBatches, disk_of, is_broken, place_of}
 use Rattle.edit_file.specs.Standing.{BreaksAt, FileStands}
+use Rattle.edit_file.specs.declared.file.EditFile.{EditFile}
 use Rattle.command_core.specs.declared.fault.Fault.{Fault}
 use Rattle.command_core.specs.declared.fault.Fault.TheVariants as fault
 use Rattle.kept_library.specs.Closing.{LeavesAt, Puts}
@@ -49,6 +50,16 @@ module _ {D : Type 0} (g : Ghosts D) {f : faulted.Ghosts D} where
     pub place : IfSome contents (λ _. place_of g kept.file ≡ Some path)
     pub faultless : f.faults (disk_of g kept.file) ≡ 0
 
+-- the bytes represent the batches, or these and then `first`
+abbrev pub StandsWithFirst : List (List Edit) → (first : List Edit) → List ℕ → Type 0
+StandsWithFirst bs first bytes = FileStands bytes bs ⊎ FileStands bytes (bs ++ if_filled first)
+
+module _ {D : Type 0} (g : Ghosts D) {f : faulted.Ghosts D} where
+  -- the append of `first` failed: if the file had the batches, a crash leaves these, or these and then `first`
+  abbrev pub LosesFirst : (old new : EditFile D g f) → List (List Edit) → (first : List Edit) → Type 0
+  LosesFirst old new bs first =
+      HasBatches g old bs → IfSome (g.bytes (disk_of g old)) (λ _. (image : List ℕ) → g.images (disk_of g new) image → StandsWithFirst bs first image)
+
 -- why the batches open no share; an allocation may fail at any time
 abbrev pub StopsShare : List (List Edit) → Fault FileFault → Type 0
 StopsShare bs (fault.Own (NotEditFile at)) = ⊥
@@ -83,14 +94,20 @@ pub record LeavesBatches (path : List ℕ) (before now : Option Contents) : Type
 abbrev pub LeavesStanding : List ℕ → (before now : Option Contents) → Type 0
 LeavesStanding path before now = (bs : List (List Edit)) → StandsAt before path bs → LeavesAt path bs before now
 
--- what is under the file's name after a refusal: the same bytes, or the same batches; a call may fail within a change
-abbrev pub LeavesRefused : (before now : Option Contents) → List ℕ → Fault FileFault → Type 0
-LeavesRefused before now path (fault.Own (NotEditFile at)) = IfSome before (λ c. Puts path (bytes_at c path) c now)
-LeavesRefused before now path (fault.Own Failed) = Unit {0}
-LeavesRefused before now path (fault.Own TooManyEdits) = LeavesBatches path before now
-LeavesRefused before now path (fault.Own TooManyLists) = LeavesBatches path before now
-LeavesRefused before now path fault.Read = Unit {0}
-LeavesRefused before now path fault.Memory = LeavesStanding path before now
+-- .. or these and `first`, whose append failed
+abbrev pub LeavesFirst : List ℕ → (first : List Edit) → (before now : Option Contents) → Type 0
+LeavesFirst path first before now =
+    (bs : List (List Edit)) → StandsAt before path bs → LeavesAt path bs before now ⊎ LeavesAt path (bs ++ if_filled first) before now
+
+-- what is under the file's name after a refusal: the same bytes, or the same batches; if a call failed, perhaps these
+-- and then `first`
+abbrev pub LeavesRefused : (before now : Option Contents) → List ℕ → (first : List Edit) → Fault FileFault → Type 0
+LeavesRefused before now path first (fault.Own (NotEditFile at)) = IfSome before (λ c. Puts path (bytes_at c path) c now)
+LeavesRefused before now path first (fault.Own Failed) = (now ≡ before) ⊎ LeavesFirst path first before now
+LeavesRefused before now path first (fault.Own TooManyEdits) = LeavesBatches path before now
+LeavesRefused before now path first (fault.Own TooManyLists) = LeavesBatches path before now
+LeavesRefused before now path first fault.Read = Unit {0}
+LeavesRefused before now path first fault.Memory = LeavesStanding path before now
 
 -- the error counter rises exactly if the file failed
 abbrev pub CountsFault : ℕ → ℕ → Fault FileFault → Type 0

@@ -5,15 +5,15 @@ ghost use Rattle.item_model.specs.Limits.{text_limit};
 ghost use Rattle.item_model.specs.Valid.{AreValid};
 ghost use Rattle.outside_disks.specs.Told.{Grows};
 ghost use Rattle.records_import.specs.Written.{IsReadable};
-ghost use Rattle.edit_file.specs.Files.{HasBatches, disk_of, is_broken, place_of};
+ghost use Rattle.edit_file.specs.Files.{HasBatches, faults_of, is_broken, place_of};
 ghost use Rattle.share_core.specs.Opened.{if_filled};
-ghost use Rattle.kept_library.specs.Opening.{AreFew, CountsFault, CountsStop, HasOpened, LeavesRefused, StopsShare, StopsOpening, share_of};
+ghost use Rattle.kept_library.specs.Opening.{AreFew, CountsFault, CountsStop, HasOpened, LeavesRefused, LosesFirst, StopsShare, StopsOpening, share_of};
 
 use crate::fault::{FileFault, file_fault, open_fault};
 use command_core::Fault;
-use daap_outside::{Disk, Files};
 use edit_file::{EditFile, Frame};
 use item_model::Batch;
+use outside_net::{Disk, Files};
 use share_core::Share;
 use std::alloc::{AllocError, Global};
 
@@ -45,9 +45,11 @@ pub fn open_library<F: Files>(
     requires window { keep ≤ 65536 }
     requires valid { AreValid first }
     requires readable { IsReadable first }
-    ensures opened { IfOk result (λ kept. HasOpened F.D.Disk.own (F.contents files.old) path.now (record { name = name.now; keep = keep }) first kept) }
+    ensures opened { IfOk result (HasOpened F.D.Disk.own (F.contents files.old) path.now
+        (record { name = name.now; keep = keep }) first) }
     ensures stops { IfErr result (StopsOpening (F.contents files.old) path.now first) }
-    ensures left { IfErr result (LeavesRefused (F.contents files.old) (F.contents files.new) path.now) }
+    ensures left { IfErr result
+        (LeavesRefused (F.contents files.old) (F.contents files.new) path.now first) }
     ensures asks { Grows (F.asked files.old) (F.asked files.new) (path.now ∷ []) }
     ensures contents { OnOk result (F.contents files.new ≡ F.contents files.old) }
     ensures count { CountsStop (F.faults files.old) (F.faults files.new) result }
@@ -62,7 +64,7 @@ pub fn open_library<F: Files>(
             return Err(file_fault(error));
         }
     };
-    match begun(alloc, &mut file, name, keep, batches, first) {
+    match open_and_append(alloc, &mut file, name, keep, batches, first) {
         Ok(share) => Ok(KeptLibrary { share, file }),
         Err(stop) => {
             files.close(file.into_disk());
@@ -72,7 +74,7 @@ pub fn open_library<F: Files>(
 }
 
 // Opens the share with `batches` and then `first`, and appends `first` to the file.
-fn begun<D: Disk + Drop>(
+fn open_and_append<D: Disk + Drop>(
     alloc: Global,
     file: &mut EditFile<D>,
     name: &str,
@@ -88,20 +90,25 @@ fn begun<D: Disk + Drop>(
     requires valid { AreValid first }
     requires readable { IsReadable first }
     requires sound { is_broken D.Disk.own file.old ≡ false }
-    ensures opened { IfOk result (λ share. share ≡ share_of (record { name = name.now; keep = keep }) (batches.items ++ if_filled first)) }
+    ensures opened { IfOk result (λ share. share
+        ≡ share_of (record { name = name.now; keep = keep }) (batches.items ++ if_filled first)) }
     ensures few { OnOk result (AreFew (batches.items ++ if_filled first)) }
     ensures stops { IfErr result (StopsShare (batches.items ++ if_filled first)) }
-    ensures unchanged { IfErr result (λ stop. (stop ≡ Fault.Own FileFault.Failed) ⊎ (file.new ≡ file.old)) }
-    ensures keeps { HasBatches D.Disk.own file.old batches.items → OnOk result (HasBatches D.Disk.own file.new (batches.items ++ if_filled first)) }
+    ensures unchanged { IfErr result (λ stop. (file.new ≡ file.old)
+        ⊎ ((stop ≡ Fault.Own FileFault.Failed)
+        × LosesFirst D.Disk.own file.old file.new batches.items first)) }
+    ensures keeps { HasBatches D.Disk.own file.old batches.items
+        → OnOk result (HasBatches D.Disk.own file.new (batches.items ++ if_filled first)) }
     ensures sound { OnOk result (is_broken D.Disk.own file.new ≡ false) }
     ensures place_stays { place_of D.Disk.own file.new ≡ place_of D.Disk.own file.old }
-    ensures count { CountsStop (D.faults (disk_of D.Disk.own file.old)) (D.faults (disk_of D.Disk.own file.new)) result }
+    ensures count { CountsStop (faults_of D.Disk.own file.old) (faults_of D.Disk.own file.new)
+        result }
 {
     if first.edits.as_slice().is_empty() {
         return share_with(alloc, name, keep, batches);
     }
     let frame = Frame::of(alloc, &first)?;
-    let batches = joined(batches, first)?;
+    let batches = with_last(batches, first)?;
     let share = share_with(alloc, name, keep, batches)?;
     match file.append(frame) {
         Ok(()) => Ok(share),
@@ -110,7 +117,7 @@ fn begun<D: Disk + Drop>(
 }
 
 // Returns `batches` with `last` appended.
-fn joined(batches: Vec<Batch>, last: Batch) -> Result<Vec<Batch>, AllocError>
+fn with_last(batches: Vec<Batch>, last: Batch) -> Result<Vec<Batch>, AllocError>
     ensures { IfOk result (λ all. all.items ≡ batches.items ++ last ∷ []) }
 {
     let mut batches = batches;
@@ -130,7 +137,8 @@ fn share_with(
     requires window { keep ≤ 65536 }
     requires filled { All (λ batch. batch ≢ []) batches.items }
     requires valid { All AreValid batches.items }
-    ensures opened { IfOk result (λ share. share ≡ share_of (record { name = name.now; keep = keep }) batches.items) }
+    ensures opened { IfOk result (λ share. share
+        ≡ share_of (record { name = name.now; keep = keep }) batches.items) }
     ensures few { OnOk result (AreFew batches.items) }
     ensures stops { IfErr result (StopsShare batches.items) }
     ensures count { (n : ℕ) → IfErr result (CountsFault n n) }

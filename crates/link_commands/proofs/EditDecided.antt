@@ -5,7 +5,7 @@ use Rattle.http_client.specs.Replies.{Reply}
 use Rattle.command_core.specs.declared.fault.Fault.{Fault}
 use Rattle.command_core.specs.declared.fault.Fault.TheVariants.{Own, Read, Memory as wanted}
 use Rattle.command_core.specs.Endings.{Done, OutputCut, Refused as refused_ending, LineCut}
-use Rattle.command_core.specs.Faults.{fault_status}
+use Rattle.command_core.specs.Faults.{fault_line, fault_status}
 use Rattle.command_core.specs.ReadRecords.{records_limit}
 use Rattle.command_core.specs.Seen.{InputSeen, Told}
 use Rattle.command_core.proofs.Reading.{read_whole}
@@ -23,12 +23,12 @@ use Rattle.followed_shares.proofs.Successes.{answer_is}
 use Rattle.link_commands.specs.declared.edit.EditFault.{EditFault}
 use Rattle.link_commands.specs.declared.edit.EditFault.TheVariants.{TooLong, Unreached, Refused, Link}
 use Rattle.link_commands.specs.Decided.{BeginsDue, DecidesEdit, IsDueAnswer, IsOrMemory, IsSendable}
-use Rattle.link_commands.specs.EditShare.{HasBody, IsEditDone, IsTooLong, StopsEdit, StopsSending, edit_meaning, edit_status, told_of}
+use Rattle.link_commands.specs.EditShare.{HasBody, IsEditDone, IsTooLong, StopsEdit, StopsSending, edit_line, edit_meaning, edit_status, told_of}
 use Rattle.link_commands.specs.Linked.{HasLinked, LinkSeen, start_of}
 use Rattle.link_commands.specs.Links.{link_status}
 use Rattle.link_commands.specs.Meanings.{LinkEnds}
 use Rattle.link_commands.specs.Served.{IsFaultless}
-use Rattle.link_commands.proofs.LinkedFacts.{left_is, link_rose, owed_is}
+use Rattle.link_commands.proofs.LinkedFacts.{behind_rose, left_is, link_rose, owed_is}
 
 -- ---- what is sent
 
@@ -190,7 +190,7 @@ edit_decided host stop told status (Done output, e, (done, w)) faultless = recor
   due = λ within bytes known b. inl e;
   unexpected = λ within bytes known none. absurd (none (done_begins host stop told output bytes done known));
 }
-edit_decided host stop told status (OutputCut output, e, (begun, w)) faultless = absurd (faultless.output w.rose)
+edit_decided host stop told status (OutputCut output, e, c) faultless = absurd (faultless.output (behind_rose told.output_before told.output_after c.front c.last c.cut))
 edit_decided host stop told status (refused_ending front fault, e, (stops, w)) faultless = record {
   long = λ reads input known long.
       by_fault host stop told status 8 fault e stops.0 faultless (λ link linked s. sent_long host stop told status link fault input e s faultless reads known long);
@@ -199,4 +199,4 @@ edit_decided host stop told status (refused_ending front fault, e, (stops, w)) f
   unexpected = λ within bytes known none.
       by_fault host stop told status 7 fault e stops.0 faultless (λ link linked s. sent_unexpected host stop told status link fault e linked s faultless within);
 }
-edit_decided host stop told status (LineCut front fault, e, (stops, w)) faultless = absurd (faultless.output w.rose)
+edit_decided host stop told status (LineCut front fault, e, (stops, w)) faultless = absurd (faultless.output (behind_rose told.output_before told.output_after front (fault_line edit_line fault) w))

@@ -4,12 +4,12 @@ use Rattle.command_core.specs.declared.fault.Fault.{Fault}
 use Rattle.command_core.specs.declared.fault.Fault.TheVariants.{Memory}
 use Rattle.command_core.specs.declared.outcome.Outcome.{Outcome}
 use Rattle.command_core.specs.Answers.{Tells, TellsDone, TellsFault, TellsMemory}
-use Rattle.command_core.specs.Endings.{Done, OutputCut, Refused, LineCut, IsCut, IsWritten}
+use Rattle.command_core.specs.Endings.{Done, OutputCut, Refused, LineCut, IsWritten}
 use Rattle.command_core.specs.Faults.{fault_line, fault_status, memory_line}
 use Rattle.command_core.specs.Seen.{OutputSeen, Seen, Told}
-use Rattle.command_core.proofs.Appending.{cut_more, none_written, written_more}
+use Rattle.command_core.proofs.Appending.{none_written, written_more}
 use Rattle.link_commands.specs.Linked.{IsUntouched}
-use Rattle.link_commands.specs.Meanings.{IsLinkAnswered, LinkEnds, LinkMeaning}
+use Rattle.link_commands.specs.Meanings.{IsCutBehind, IsLinkAnswered, LinkEnds, LinkMeaning}
 
 -- what every end of a command has to meet
 abbrev pub Promised : LinkMeaning → Type 0
@@ -20,17 +20,20 @@ answered m owes told outcome unopened ends = record { unopened = unopened; ends 
 
 -- after what was written before, the rest of the output was written, or the output failed
 pub by_output : (m : LinkMeaning) → Promised m → (told : Told) (mid : OutputSeen) (outcome : Outcome) (front rest : List ℕ) → m.is_done told.before told.after (front ++ rest)
-    → m.is_begun told.before told.after (front ++ rest) → IsWritten told.output_before mid front → TellsDone None rest mid told.output_after outcome → IsLinkAnswered m told outcome
+    → m.is_begun told.before told.after front rest → IsWritten told.output_before mid front → TellsDone None rest mid told.output_after outcome → IsLinkAnswered m told outcome
 by_output m owes told mid outcome front rest done begun w t = at_end t.told
   where
     at_end : Tells 0 rest mid told.output_after outcome.status → IsLinkAnswered m told outcome
     at_end (inl x) = answered m owes told outcome t.history (Done (front ++ rest), x.0, (done, written_more told.output_before mid told.output_after front rest w x.1))
-    at_end (inr x) = answered m owes told outcome t.history (OutputCut (front ++ rest), x.0, (begun, cut_more told.output_before mid told.output_after front rest w x.1))
+    at_end (inr x) =
+        let cut : IsCutBehind told.output_before told.output_after front rest = record { at_cut = mid; written = w; cut = x.1 } in
+        answered m owes told outcome t.history (OutputCut (front ++ rest), x.0, record { front = front; last = rest; is = refl; begun = begun; cut = cut })
 
 -- the output failed
-pub by_cut : (m : LinkMeaning) → Promised m → (told : Told) (outcome : Outcome) (output : List ℕ) → m.is_begun told.before told.after output
-    → outcome.history ≡ None → outcome.status ≡ 5 → IsCut told.output_before told.output_after output → IsLinkAnswered m told outcome
-by_cut m owes told outcome output begun unopened s w = answered m owes told outcome unopened (OutputCut output, s, (begun, w))
+pub by_cut : (m : LinkMeaning) → Promised m → (told : Told) (outcome : Outcome) (front last : List ℕ) → m.is_begun told.before told.after front last
+    → outcome.history ≡ None → outcome.status ≡ 5 → IsCutBehind told.output_before told.output_after front last → IsLinkAnswered m told outcome
+by_cut m owes told outcome front last begun unopened s w =
+    answered m owes told outcome unopened (OutputCut (front ++ last), s, record { front = front; last = last; is = refl; begun = begun; cut = w })
 
 -- the line of an error ends a run, after what was written before
 by_line : (m : LinkMeaning) → Promised m → (told : Told) (mid : OutputSeen) (outcome : Outcome) (front : List ℕ) (fault : Fault m.fault) → m.stops told.before told.after fault front
@@ -41,7 +44,7 @@ by_line m owes told mid outcome front fault stops w unopened (inl t) =
     (Refused front fault, t.0, (stops, written_more told.output_before mid told.output_after front (fault_line m.line fault) w t.1))
 by_line m owes told mid outcome front fault stops w unopened (inr t) =
     answered m owes told outcome unopened
-    (LineCut front fault, t.0, (stops, cut_more told.output_before mid told.output_after front (fault_line m.line fault) w t.1))
+    (LineCut front fault, t.0, (stops, record { at_cut = mid; written = w; cut = t.1 }))
 
 -- the line of out of memory ends a run
 pub by_memory : (m : LinkMeaning) → Promised m → (told : Told) (mid : OutputSeen) (outcome : Outcome) (front : List ℕ) → m.stops told.before told.after Memory front
@@ -69,7 +72,7 @@ by_fault m owes told mid outcome front fault stops wants w t = at_line t.told
 
 -- a command that writes once, at its end
 pub by_answer : (m : LinkMeaning) → Promised m → (told : Told) (outcome : Outcome) (answer : Result (Vec ℕ Global) (Fault m.fault))
-    → IfOk answer (λ bytes. m.is_done told.before told.after bytes.items × m.is_begun told.before told.after bytes.items)
+    → IfOk answer (λ bytes. m.is_done told.before told.after bytes.items × m.is_begun told.before told.after [] bytes.items)
     → IfErr answer (λ fault. m.stops told.before told.after fault [] × m.stops told.before told.after Memory [])
     → MatchResult answer (λ bytes. TellsDone None bytes.items told.output_before told.output_after outcome)
     (λ fault. TellsFault m.line m.status fault told.output_before told.output_after outcome)

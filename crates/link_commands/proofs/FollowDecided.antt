@@ -1,11 +1,11 @@
 -- What decides the status of a run of `follow`.
-use Rattle.std.proofs.Common.{◌≡◌, ℕ, List, Option, Some, None, sym, ◌∙◌, inl, inr}
-use Rattle.daap_outside.specs.Counts.{Rose}
+use Rattle.std.proofs.Common.{◌≡◌, ℕ, List, Option, Some, None, sym, ◌∙◌, subst, inl, inr}
+use Rattle.outside_net.specs.Counts.{Rose}
 use Rattle.item_model.specs.declared.request.Target.{Target}
 use Rattle.command_core.specs.declared.fault.Fault.{Fault}
 use Rattle.command_core.specs.declared.fault.Fault.TheVariants.{Own, Read, Memory as want}
 use Rattle.command_core.specs.Endings.{Done, OutputCut, Refused as refused_ending, LineCut}
-use Rattle.command_core.specs.Faults.{fault_status}
+use Rattle.command_core.specs.Faults.{fault_line, fault_status}
 use Rattle.command_core.specs.Seen.{Told}
 use Rattle.mirror_core.specs.Mirrored.{Mirrored}
 use Rattle.mirror_client.specs.Exchanges.{messages}
@@ -13,14 +13,14 @@ use Rattle.followed_shares.proofs.FilterShown.{owed_split}
 use Rattle.link_commands.specs.declared.follow.FollowFault.{FollowFault}
 use Rattle.link_commands.specs.declared.follow.FollowFault.TheVariants.{Query, Meta, Unreached, Link}
 use Rattle.link_commands.specs.Decided.{BeginsRun, DecidesFollow, HasNoRun, HasRun, IsOrMemory, IsTextRefused}
-use Rattle.link_commands.specs.FollowShare.{IsFollowDone, StopsFollowBy, follow_meaning, follow_status}
+use Rattle.link_commands.specs.FollowShare.{IsFollowDone, StopsFollowBy, follow_line, follow_meaning, follow_status}
 use Rattle.link_commands.specs.Linked.{start_of}
 use Rattle.link_commands.specs.Looks.{AsksMirror}
 use Rattle.link_commands.specs.Meanings.{LinkEnds}
 use Rattle.link_commands.specs.Served.{IsFaultless}
 use Rattle.link_commands.proofs.EditDecided.{link_unexpected}
-use Rattle.link_commands.proofs.FollowPromised.{link_goes_on, read_or_refused}
-use Rattle.link_commands.proofs.LinkedFacts.{left_is, owed_is}
+use Rattle.link_commands.proofs.FollowPromised.{link_goes_on, one_mirror, read_or_refused}
+use Rattle.link_commands.proofs.LinkedFacts.{behind_rose, left_is, owed_is}
 use Rattle.link_commands.proofs.RunOnce.{whole_run_goes_on}
 
 -- ---- the texts
@@ -41,10 +41,10 @@ fault_refused host rounds query meta target told status want front e stops refus
 pub follow_refused : (host : List ℕ) (rounds : ℕ) (query meta : Option (List ℕ)) (target : Target) (told : Told) (status : ℕ) → LinkEnds (follow_meaning host rounds query meta target) told status
     → (Rose told.output_before.faults told.output_after.faults → ⊥) → IsTextRefused query meta → IsOrMemory 3 status
 follow_refused host rounds query meta target told status (Done output, e, (done, w)) whole refused = absurd (texts_once query meta target done.m refused done.for.asks)
-follow_refused host rounds query meta target told status (OutputCut output, e, (begun, w)) whole refused = absurd (whole w.rose)
+follow_refused host rounds query meta target told status (OutputCut output, e, c) whole refused = absurd (whole (behind_rose told.output_before told.output_after c.front c.last c.cut))
 follow_refused host rounds query meta target told status (refused_ending front fault, e, (stops, w)) whole refused =
     fault_refused host rounds query meta target told status fault front e stops refused
-follow_refused host rounds query meta target told status (LineCut front fault, e, (stops, w)) whole refused = absurd (whole w.rose)
+follow_refused host rounds query meta target told status (LineCut front fault, e, (stops, w)) whole refused = absurd (whole (behind_rose told.output_before told.output_after front (fault_line follow_line fault) w))
 
 -- ---- the bytes of the connection
 
@@ -77,7 +77,8 @@ fault_due host rounds query meta target told status (Own (Link error)) front byt
     let x = stops.1 in
     let owed = owed_is x.link bytes (left_is told.before.around.net.next_input x.link.left bytes known x.for.linked.input) in
     absurd (link_goes_on host rounds query meta target told error front stops.0 x faultless
-    (whole_run_goes_on host x.m x.stops.now rounds (start_of x.link) x.link.taken error bytes owed (r.run x.m x.for.asks) x.stops.stops))
+    (whole_run_goes_on host x.m x.stops.now rounds (start_of x.link) x.link.taken error bytes owed
+    (subst (λ (k : Mirrored). BeginsRun host k rounds bytes) (one_mirror query meta target r.m x.m r.asks x.for.asks) r.run) x.stops.stops))
 fault_due host rounds query meta target told status Read front bytes e stops faultless known r = absurd stops
 fault_due host rounds query meta target told status want front bytes e stops faultless known r = inr e
 
@@ -98,11 +99,13 @@ pub follow_decided : (host : List ℕ) (rounds : ℕ) (query meta : Option (List
     → IsFaultless told → DecidesFollow host rounds query meta target told status
 follow_decided host rounds query meta target told status (Done output, e, (done, w)) faultless = record {
   due = λ bytes known r. inl e;
-  unexpected = λ bytes known r. absurd (r.none done.m done.for.asks (done_run host rounds query meta target told output bytes done known));
+  unexpected = λ bytes known r.
+      absurd (r.none (subst (λ (k : Mirrored). BeginsRun host k rounds bytes) (one_mirror query meta target done.m r.m done.for.asks r.asks)
+      (done_run host rounds query meta target told output bytes done known)));
 }
-follow_decided host rounds query meta target told status (OutputCut output, e, (begun, w)) faultless = absurd (faultless.output w.rose)
+follow_decided host rounds query meta target told status (OutputCut output, e, c) faultless = absurd (faultless.output (behind_rose told.output_before told.output_after c.front c.last c.cut))
 follow_decided host rounds query meta target told status (refused_ending front fault, e, (stops, w)) faultless = record {
   due = λ bytes known r. fault_due host rounds query meta target told status fault front bytes e stops faultless known r;
   unexpected = λ bytes known r. fault_unexpected host rounds query meta target told status fault front bytes e stops faultless r;
 }
-follow_decided host rounds query meta target told status (LineCut front fault, e, (stops, w)) faultless = absurd (faultless.output w.rose)
+follow_decided host rounds query meta target told status (LineCut front fault, e, (stops, w)) faultless = absurd (faultless.output (behind_rose told.output_before told.output_after front (fault_line follow_line fault) w))

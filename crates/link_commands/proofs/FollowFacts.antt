@@ -1,7 +1,7 @@
 -- How a run of `follow` ends.
 use Rattle.std.proofs.Common.{◌≡◌, ◌⊎◌, ◌++◌, ◌∷◌, ℕ, List, [], Option, None, Result, Ok, Err, IfErr, OnOk, MatchResult, refl, sym, ◌∙◌, subst, inl, inr}
-use Rattle.daap_outside.specs.Counts.{Rose}
-use Rattle.daap_outside.specs.Told.{Grows}
+use Rattle.outside_net.specs.Counts.{Rose}
+use Rattle.outside_net.specs.Told.{Grows}
 use Rattle.item_model.specs.declared.request.Target.{Target}
 use Rattle.mirror_core.specs.declared.mirror.Applied.{Applied}
 use Rattle.mirror_core.specs.Mirrored.{Mirrored}
@@ -9,7 +9,7 @@ use Rattle.command_core.specs.declared.fault.Fault.{Fault}
 use Rattle.command_core.specs.declared.fault.Fault.TheVariants.{Own, Read, Memory as want}
 use Rattle.command_core.specs.declared.outcome.Outcome.{Outcome}
 use Rattle.command_core.specs.Answers.{TellsFault, TellsMemory}
-use Rattle.command_core.specs.Endings.{Done, OutputCut, Refused as refused_ending, LineCut, IsCut, IsWritten}
+use Rattle.command_core.specs.Endings.{Done, OutputCut, Refused as refused_ending, LineCut, IsWritten}
 use Rattle.command_core.specs.Faults.{fault_status}
 use Rattle.command_core.specs.Seen.{OutputSeen, Seen, Told, IsUnread}
 use Rattle.mirror_client.specs.declared.refusal.FollowError.{FollowError}
@@ -23,13 +23,13 @@ use Rattle.link_commands.specs.FollowShare.{HasFollowed, IsFollowBegun, IsFollow
 use Rattle.link_commands.specs.Linked.{IsUnreached, IsUntouched, LinkSeen}
 use Rattle.link_commands.specs.LookFaults.{IsLookFault}
 use Rattle.link_commands.specs.Looks.{AsksMirror}
-use Rattle.link_commands.specs.Meanings.{IsLinkAnswered, KeepsNet, LinkEnds}
+use Rattle.link_commands.specs.Meanings.{IsCutBehind, IsLinkAnswered, KeepsNet, LinkEnds}
 use Rattle.link_commands.specs.RoundLines.{round_lines, shown_rows}
 use Rattle.link_commands.specs.Rounds.{EndsRounds}
 use Rattle.link_commands.proofs.EndedFacts.{Promised, by_cut, by_fault, by_idle, by_memory, by_output, untouched}
 use Rattle.command_core.proofs.Appending.{none_written}
 use Rattle.link_commands.proofs.FollowDecided.{follow_decided, follow_refused}
-use Rattle.link_commands.proofs.FollowPromised.{follow_goes_on, follow_shows}
+use Rattle.link_commands.proofs.FollowPromised.{follow_goes_on}
 use Rattle.link_commands.proofs.LinkedFacts.{link_rose}
 use Rattle.link_commands.proofs.PushFacts.{link_fails, link_is}
 
@@ -75,10 +75,10 @@ stop_rose host rounds query meta target told (Own (Link e)) front s h =
 stop_rose host rounds query meta target told Read front s h = absurd s
 stop_rose host rounds query meta target told want front s h = absurd (cc)
 
-begun_asked : (host : List ℕ) (rounds : ℕ) (query meta : Option (List ℕ)) (target : Target) (told : Told) (output : List ℕ)
-    → IsFollowBegun host rounds query meta target told.before told.after output → Asked host told
-begun_asked host rounds query meta target told output (inl done) = inr done.for.linked.asked
-begun_asked host rounds query meta target told output (inr b) = inr b.2.linked.asked
+begun_asked : (host : List ℕ) (rounds : ℕ) (query meta : Option (List ℕ)) (target : Target) (told : Told) (front last : List ℕ)
+    → IsFollowBegun host rounds query meta target told.before told.after front last → Asked host told
+begun_asked host rounds query meta target told front last (inl d) = inr d.0.for.linked.asked
+begun_asked host rounds query meta target told front last (inr b) = inr b.2.linked.asked
 
 keeps_net : (host : List ℕ) (rounds : ℕ) (query meta : Option (List ℕ)) (target : Target) (told : Told) (status : ℕ) → LinkEnds (follow_meaning host rounds query meta target) told status
     → KeepsNet host told status
@@ -87,8 +87,8 @@ keeps_net host rounds query meta target told status (Done output, s, (done, w)) 
   rose = λ six. let bad : 0 ≡ 6 = sym s ∙ six in absurd (cc);
   faultless = λ zero. done.for.linked.count.faultless done.followed.faultless;
 }
-keeps_net host rounds query meta target told status (OutputCut output, s, (begun, w)) = record {
-  asked = begun_asked host rounds query meta target told output begun;
+keeps_net host rounds query meta target told status (OutputCut output, s, c) = record {
+  asked = begun_asked host rounds query meta target told c.front c.last c.begun;
   rose = λ six. let bad : 5 ≡ 6 = sym s ∙ six in absurd (cc);
   faultless = λ zero. let bad : 5 ≡ 0 = sym s ∙ zero in absurd (cc);
 }
@@ -107,7 +107,6 @@ keeps_net host rounds query meta target told status (LineCut front fault, s, (st
 pub follow_promised : (host : List ℕ) (rounds : ℕ) (query meta : Option (List ℕ)) (target : Target) → Promised (follow_meaning host rounds query meta target)
 follow_promised host rounds query meta target told status ends = record {
   net = keeps_net host rounds query meta target told status ends;
-  shows = follow_shows host rounds query meta target told status follow_fails ends;
   goes_on = follow_goes_on host rounds query meta target told status ends;
   refused = follow_refused host rounds query meta target told status ends;
   decided = follow_decided host rounds query meta target told status ends;
@@ -145,8 +144,8 @@ rows_end : (host : List ℕ) (rounds : ℕ) (query meta : Option (List ℕ)) (ta
 rows_end host rounds query meta target told mid outcome m now link applied for followed lines (inl rows) =
     let done : IsFollowDone host rounds query meta target told.before told.after (round_lines applied ++ shown_rows now.held.rows) =
     record { m = m; link = link; for = for; applied = applied; now = now; followed = followed; written = refl } in
-    by_output (follow_meaning host rounds query meta target) (follow_promised host rounds query meta target) told mid outcome (round_lines applied) (shown_rows now.held.rows) done (inl done)
-    lines rows
+    by_output (follow_meaning host rounds query meta target) (follow_promised host rounds query meta target) told mid outcome (round_lines applied) (shown_rows now.held.rows) done
+    (inl (done, refl)) lines rows
 rows_end host rounds query meta target told mid outcome m now link applied for followed lines (inr memory) =
     by_memory (follow_meaning host rounds query meta target) (follow_promised host rounds query meta target) told mid outcome (round_lines applied)
     (inr (inr (inr (m, now, link, applied, for, followed, refl)))) lines memory
@@ -160,8 +159,9 @@ pub finished : {A : Type 0} (host : List ℕ) (rounds : ℕ) (query meta : Optio
 finished host rounds query meta target told mid outcome m now link (Ok a) for done stops t =
     rows_end host rounds query meta target told mid outcome m now link done.0 for done.1 done.2 t
 finished host rounds query meta target told mid outcome m now link (Err Output) for done stops t =
-    by_cut (follow_meaning host rounds query meta target) (follow_promised host rounds query meta target) told outcome stops.lines
-    (inr (m, link, for, stops.has, stops.faultless)) t.unopened t.status (subst (λ (o : OutputSeen). IsCut told.output_before o stops.lines) (sym t.untold) stops.cut)
+    by_cut (follow_meaning host rounds query meta target) (follow_promised host rounds query meta target) told outcome stops.front stops.line
+    (inr (m, link, for, stops.has, stops.faultless)) t.unopened t.status
+    (subst (λ (o : OutputSeen). IsCutBehind told.output_before o stops.front stops.line) (sym t.untold) stops.cut)
 finished host rounds query meta target told mid outcome m now link (Err (link_stop e)) for done stops t =
     let x : StopsFollowing host rounds query meta target told.before told.after e stops.lines = record { m = m; link = link; for = for; stops = stops.stops } in
     by_fault (follow_meaning host rounds query meta target) (follow_promised host rounds query meta target) told mid outcome stops.lines (link_fault e)

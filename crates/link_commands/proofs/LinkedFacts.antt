@@ -2,10 +2,11 @@
 use Rattle.std.proofs.Common.{◌≡◌, ℕ, Bool, List, [], ◌∷◌, ◌++◌, length, Option, Some, IfSome, sym, subst, ◌∙◌, ap, inl, inr, arith, append-nil}
 use Rattle.std.specs.Io.KnownBytes.{Appends, prepend_known}
 use Rattle.std.proofs.lemmas.List.{take_all}
-use Rattle.daap_outside.specs.Counts.{Rose, RisesWith}
-use Rattle.daap_outside.specs.Places.{returned}
-use Rattle.daap_outside.specs.Told.{AppendsPrefix, BeginsEmpty, Grows, GrowsByTold}
-use Rattle.command_core.specs.Seen.{NetSeen, net_seen}
+use Rattle.outside_net.specs.Counts.{Rose, RisesWith}
+use Rattle.outside_net.specs.Places.{returned}
+use Rattle.outside_net.specs.Told.{AppendsPrefix, BeginsEmpty, Grows, GrowsByTold}
+use Rattle.command_core.specs.Seen.{NetSeen, OutputSeen, net_seen}
+use Rattle.command_core.proofs.Appending.{cut_more}
 use Rattle.mirror_client.specs.declared.refusal.FollowError.{FollowError}
 use Rattle.mirror_client.specs.declared.refusal.FollowError.TheVariants.{LinkFault}
 use Rattle.mirror_client.specs.Exchanges.{Exchanged}
@@ -13,22 +14,27 @@ use Rattle.mirror_client.specs.Points.{Point}
 use Rattle.http_client.specs.Replies.{Reply}
 use Rattle.mirror_client.specs.Stopping.{CountsFault, Stops}
 use Rattle.link_commands.specs.Linked.{HasLinked, LinkSeen, start_of}
+use Rattle.link_commands.specs.Meanings.{IsCutBehind}
 
 -- the calls of the network, and the connection between them
 pub linked : (host : List ℕ) (asked asked' asked'' : Option (List (List ℕ × ℕ))) (written written' written'' : Option (List (List ℕ × Bool)))
-    (doors doors' doors'' : Option (List (List (List ℕ)))) (next next'' : Option (List ℕ)) (faults faults' faults'' : ℕ) (link : LinkSeen)
+    (listeners listeners' listeners'' : Option (List (List (List ℕ)))) (next next'' : Option (List ℕ)) (faults faults' faults'' : ℕ) (link : LinkSeen)
     → Grows asked asked' ((host, 0) ∷ []) → asked'' ≡ asked' → BeginsEmpty written link.begun → IfSome next (λ input. link.left ≡ Some input)
-    → written' ≡ written → GrowsByTold written' written'' (returned link.taken link.faults) → doors' ≡ doors → doors'' ≡ doors' → faults' ≡ faults
+    → written' ≡ written → GrowsByTold written' written'' (returned link.taken link.faults) → listeners' ≡ listeners → listeners'' ≡ listeners' → faults' ≡ faults
     → RisesWith faults' faults'' link.faults
-    → HasLinked host (net_seen asked written doors next faults) (net_seen asked'' written'' doors'' next'' faults'') link
-linked host asked asked' asked'' written written' written'' doors doors' doors'' next next'' faults faults' faults'' link asks same empty input keeps grows stay stays steady rises = record {
+    → HasLinked host (net_seen asked written listeners next faults) (net_seen asked'' written'' listeners'' next'' faults'') link
+linked host asked asked' asked'' written written' written'' listeners listeners' listeners'' next next'' faults faults' faults'' link asks same empty input keeps grows stay stays steady rises = record {
   asked = subst (λ (a : Option (List (List ℕ × ℕ))). Grows asked a ((host, 0) ∷ [])) (sym same) asks;
   begun = empty;
   input = input;
   written = subst (λ (w : Option (List (List ℕ × Bool))). GrowsByTold w written'' (returned link.taken link.faults)) keeps grows;
-  doors = stays ∙ stay;
+  listeners = stays ∙ stay;
   count = subst (λ (n : ℕ). RisesWith n faults'' link.faults) steady rises;
 }
+
+-- an output that failed counted an error
+pub behind_rose : (before after : OutputSeen) (front last : List ℕ) → IsCutBehind before after front last → Rose before.faults after.faults
+behind_rose before after front last c = (cut_more before c.at_cut after front last c.written c.cut).rose
 
 -- an error of the connection is one of the network
 pub link_rose : (host : List ℕ) (before after : NetSeen) (link : LinkSeen) → HasLinked host before after link → CountsFault 0 link.faults LinkFault

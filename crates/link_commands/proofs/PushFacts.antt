@@ -1,9 +1,9 @@
 -- What an edit and a stop leave, and how they stop.
 use Rattle.std.proofs.Common.{◌≡◌, ◌<◌, ◌+◌, ℕ, Bool, false, List, [], length, Option, None, IfSome, Result, Ok, Err, Vec, Global, IfOk, IfErr, refl, sym, ap, ◌∙◌, subst, inl, inr}
-use Rattle.daap_outside.specs.Counts.{Rose}
-use Rattle.daap_outside.specs.Reading.{ConsumesUpTo, CountsReadFaults}
-use Rattle.daap_outside.specs.declared.reading.ReadError.{ReadError}
-use Rattle.daap_outside.specs.declared.reading.ReadError.TheVariants as reads
+use Rattle.outside_net.specs.Counts.{Rose}
+use Rattle.outside_net.specs.Reading.{ConsumesUpTo, CountsReadFaults}
+use Rattle.outside_net.specs.declared.reading.ReadError.{ReadError}
+use Rattle.outside_net.specs.declared.reading.ReadError.TheVariants as reads
 use Rattle.command_core.proofs.Reading.{all_read_on, failed_within, past_limit}
 use Rattle.command_core.specs.declared.fault.Fault.{Fault}
 use Rattle.command_core.specs.declared.fault.Fault.TheVariants.{Own, Read, Memory as want}
@@ -93,8 +93,8 @@ keeps_net host stop told status (Done output, s, (done, w)) = record {
   rose = λ six. let bad : 0 ≡ 6 = sym s ∙ six in absurd (cc);
   faultless = λ zero. done.linked.count.faultless done.sent.2.faultless;
 }
-keeps_net host stop told status (OutputCut output, s, (done, w)) = record {
-  asked = inr done.linked.asked;
+keeps_net host stop told status (OutputCut output, s, c) = record {
+  asked = inr c.begun.0.linked.asked;
   rose = λ six. let bad : 5 ≡ 6 = sym s ∙ six in absurd (cc);
   faultless = λ zero. let bad : 5 ≡ 0 = sym s ∙ zero in absurd (cc);
 }
@@ -189,9 +189,9 @@ nothing = []
 
 pub edit_done : (host : List ℕ) (stop : Bool) (before after : Seen) (link : LinkSeen) (answer : Result (Vec ℕ Global) (Fault EditFault)) → HasLinked host before.around.net after.around.net link
     → IfOk answer (λ bytes. (made : Pushed) × HasSent host stop before.input after.input link made × (told_of made ≡ Ok bytes.items))
-    → IfOk answer (λ bytes. IsEditDone host stop before after bytes.items × IsEditDone host stop before after bytes.items)
+    → IfOk answer (λ bytes. IsEditDone host stop before after bytes.items × (IsEditDone host stop before after bytes.items × (nothing ≡ [])))
 edit_done host stop before after link (Ok bytes) linked h =
-    let done : IsEditDone host stop before after bytes.items = record { link = link; linked = linked; made = h.0; sent = h.1; told = h.2 } in (done, done)
+    let done : IsEditDone host stop before after bytes.items = record { link = link; linked = linked; made = h.0; sent = h.1; told = h.2 } in (done, (done, refl))
 edit_done host stop before after link (Err fault) linked h = tt
 
 pub edit_stops : (host : List ℕ) (stop : Bool) (before after : Seen) (link : LinkSeen) (answer : Result (Vec ℕ Global) (Fault EditFault)) → HasLinked host before.around.net after.around.net link

@@ -1,13 +1,13 @@
 -- Rounds, one after another, and their lines.
-use Rattle.std.proofs.Common.{◌≡◌, ◌==◌, ℕ, Bool, true, false, List, [], ◌∷◌, ◌++◌, length, Option, Some, Result, Ok, Err, IfErr, OnOk, MatchResult, refl, sym, ap, ◌∙◌, subst, append_assoc, append-nil, length-append, inl, inr, arith}
+use Rattle.std.proofs.Common.{◌≡◌, ◌==◌, ℕ, Bool, true, false, List, [], ◌∷◌, ◌++◌, length, Option, Some, Result, Ok, Err, IfErr, OnOk, MatchResult, refl, sym, ap, ◌∙◌, subst, append_assoc, append-nil, inl, inr, arith}
 use Rattle.dmap_tags.specs.Codes.{code}
 use Rattle.share_asks.specs.declared.ask.Want.TheVariants as want
 use Rattle.share_history.specs.Listings.{Listing}
 use Rattle.mirror_core.specs.declared.mirror.Applied.{Applied}
 use Rattle.mirror_core.specs.Mirrored.{Mirrored}
-use Rattle.command_core.specs.Endings.{IsCut, IsWritten}
+use Rattle.command_core.specs.Endings.{IsWritten}
 use Rattle.command_core.specs.Seen.{OutputSeen}
-use Rattle.command_core.proofs.Appending.{cut_more, none_written, written_more}
+use Rattle.command_core.proofs.Appending.{none_written, written_more}
 use Rattle.http_client.specs.Replies.{Reply}
 use Rattle.http_client.specs.Requests.{request_text}
 use Rattle.mirror_client.specs.declared.refusal.FollowError.{FollowError}
@@ -71,12 +71,6 @@ pub line_written : (m : Mirrored) (ls : List Listing) (l : Listing) (done : Appl
 line_written m ls l done start before after told w line =
     subst (IsWritten start after) (lines_more m ls l done told) (written_more start before after (lines_of m ls) (round_line done) w line)
 
-line_cut : (m : Mirrored) (ls : List Listing) (l : Listing) (done : Applied) (start before after : OutputSeen)
-    → all_applied m.held ls ++ done ∷ [] ≡ all_applied m.held (ls ++ l ∷ []) → IsWritten start before (lines_of m ls) → IsCut before after (round_line done)
-    → IsCut start after (lines_of m (ls ++ l ∷ []))
-line_cut m ls l done start before after told w line =
-    subst (IsCut start after) (lines_more m ls l done told) (cut_more start before after (lines_of m ls) (round_line done) w line)
-
 -- ---- where it stopped
 
 -- at once, in a stage
@@ -121,7 +115,7 @@ lost host known m old now rounds ls p q before done x is =
       stops = stopped_on host m rounds (Asking known ls) (Holding known (ls ++ x.1 ∷ [])) p q q.taken Memory now (listed_walks host m old rounds known ls x.1 p q x.0 is x.2 x.3)
           (stopped_here host m rounds (Holding known (ls ++ x.1 ∷ [])) q q.taken Memory now request refl (unwritten request (UnexpectedIn m rounds (Holding known (ls ++ x.1 ∷ []))) q)
           (with_more m now ls x.1 (x.4 ∙ ap (λ (n : Mirrored). with_listings n (x.1 ∷ [])) is)));
-      behind = record { others = x.1 ∷ []; split = refl; only = λ other. absurd (other refl) };
+      behind = record { others = x.1 ∷ []; split = refl; only = λ other. absurd (other refl); few = omega arith };
       untold = refl;
     }
 
@@ -141,7 +135,7 @@ pub listing_ends : (host : List ℕ) (known : Known) (m old now : Mirrored) (rou
 listing_ends host known m old now rounds ls p taken before e is same stops = record {
   stops = stopped_here host m rounds (Asking known ls) p taken e now (request_text (rows_want known.session (with_listings m ls)) host) refl
       (subst (λ (n : Mirrored). Stops (request_text (rows_want known.session n) host) (UnexpectedListing known.rows n) p taken e) is stops) (same ∙ is);
-  behind = record { others = []; split = sym (append-nil ls); only = λ other. refl };
+  behind = record { others = []; split = sym (append-nil ls); only = λ other. refl; few = omega arith };
   untold = refl;
 }
 
@@ -217,7 +211,7 @@ waiting_ends host known m old now rounds revision ls p taken before e base more 
       (subst (λ (k : Mirrored). Stops (request_text (want.Update known.session k.held.revision) host) (UnexpectedNumber (code "musr") known.rows) p taken e) is
       (subst (λ (r : ℕ). Stops (request_text (want.Update known.session r) host) (UnexpectedNumber (code "musr") known.rows) p taken e) base stops)))
       (same ∙ is);
-  behind = record { others = []; split = sym (append-nil ls); only = λ other. refl };
+  behind = record { others = []; split = sym (append-nil ls); only = λ other. refl; few = omega arith };
   untold = refl;
 }
 
@@ -228,25 +222,27 @@ pub round_ends : (host : List ℕ) (known : Known) (m now : Mirrored) (rounds : 
     (stop : Stop) → Walks host m rounds Begun (start_of link) s p → IsWritten start before (lines_of m ls)
     → EndsRound host known m now rounds ls s p link.taken before after stop → CountsStop 0 link.faults stop → EndsRounds host m rounds link start after stop
 round_ends host known m now rounds ls s p link start before after Output w lines x count = record {
-  lines = lines_of m (ls ++ x.listing ∷ []);
+  front = lines_of m ls;
+  line = round_line x.done;
   has = record {
     known = known;
-    listings = ls ++ x.listing ∷ [];
+    earlier = ls;
+    last = x.listing;
     there = x.there;
     walks = walk_on host m rounds Begun s (Holding known (ls ++ x.listing ∷ [])) (start_of link) p x.there w x.walks;
     written = x.written;
-    some = omega (arith, length-append ls (x.listing ∷ []));
     lines = refl;
+    all_lines = lines_more m ls x.listing x.done x.told;
   };
   faultless = count;
-  cut = line_cut m ls x.listing x.done start before after x.told lines x.line;
+  cut = record { at_cut = before; written = lines; cut = x.line };
 }
 round_ends host known m now rounds ls s p link start before after (Link e) w lines x count = record {
   lines = lines_of m ls;
   stops = record {
     now = now;
     stops = stopped_on host m rounds Begun s (start_of link) p link.taken e now w x.stops;
-    lines = record { told = ls; others = x.behind.others; split = x.behind.split; only = x.behind.only; lines = refl };
+    lines = record { told = ls; others = x.behind.others; split = x.behind.split; only = x.behind.only; few = x.behind.few; lines = refl };
     count = count;
   };
   written = subst (λ (o : OutputSeen). IsWritten start o (lines_of m ls)) (sym x.untold) lines;
@@ -268,7 +264,7 @@ pub opening_ends : (host : List ℕ) (m : Mirrored) (rounds : ℕ) (link : LinkS
 opening_ends host m rounds link before e fails count =
     let x = opening_stops host m rounds (start_of link) link.taken e fails in record {
       lines = [];
-      stops = record { now = m; stops = x.0; lines = record { told = []; others = []; split = x.1; only = λ other. refl; lines = refl }; count = count };
+      stops = record { now = m; stops = x.0; lines = record { told = []; others = []; split = x.1; only = λ other. refl; few = omega arith; lines = refl }; count = count };
       written = none_written before;
     }
 
@@ -279,7 +275,7 @@ pub closing_ends : (host : List ℕ) (m now : Mirrored) (rounds : ℕ) (known : 
 closing_ends host m now rounds known ls p taken before e last holds stops = record {
   stops = stopped_here host m rounds (Holding known ls) p taken e now (request_text (want.Logout known.session) host) (due_behind host m rounds known ls true last)
       (subst (λ (b : Bool). Stops (request_text (want.Logout known.session) host) (UnexpectedAfter b known) p taken e) (sym last) stops) holds;
-  behind = record { others = []; split = sym (append-nil ls); only = λ other. refl };
+  behind = record { others = []; split = sym (append-nil ls); only = λ other. refl; few = omega arith };
   untold = refl;
 }
 

@@ -71,17 +71,17 @@ pub record BeginsRun (host : List ℕ) (m : Mirrored) (rounds : ℕ) (bytes : Li
   pub split : bytes ≡ messages exchanges ++ rest
   pub one_each : length listings ≡ rounds
 
--- the texts select a mirror, and the bytes begin with a whole run for each that they select
+-- the texts select this mirror, and the bytes begin with a whole run for it
 pub record HasRun (host : List ℕ) (rounds : ℕ) (query meta : Option (List ℕ)) (target : Target) (bytes : List ℕ) : Type 0 where
   pub m : Mirrored
   pub asks : AsksMirror query meta target m
-  pub run : (k : Mirrored) → AsksMirror query meta target k → BeginsRun host k rounds bytes
+  pub run : BeginsRun host m rounds bytes
 
--- .. or for none
+-- .. or with none
 pub record HasNoRun (host : List ℕ) (rounds : ℕ) (query meta : Option (List ℕ)) (target : Target) (bytes : List ℕ) : Type 0 where
   pub m : Mirrored
   pub asks : AsksMirror query meta target m
-  pub none : (k : Mirrored) → AsksMirror query meta target k → BeginsRun host k rounds bytes → ⊥
+  pub none : BeginsRun host m rounds bytes → ⊥
 
 pub record DecidesFollow (host : List ℕ) (rounds : ℕ) (query meta : Option (List ℕ)) (target : Target) (told : Told) (status : ℕ) : Type 0 where
   pub due : (bytes : List ℕ) → told.before.around.net.next_input ≡ Some bytes → HasRun host rounds query meta target bytes → IsOrMemory 0 status

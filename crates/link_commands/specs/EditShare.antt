@@ -2,7 +2,7 @@
 -- made of it.
 use Rattle.std.specs.Prelude.{◌≡◌, ◌≢◌, ◌<◌, ◌≤◌, ◌⊎◌, ◌++◌, ◌∷◌, [], ℕ, List, Bool, true, false, length, nat_le, Option, None, Some, Result, Ok, Err, codes, decimal, IfSome, if◌then◌else◌}
 use Rattle.std.specs.Io.KnownBytes.{Consumes, IsAtEnd}
-use Rattle.daap_outside.specs.Told.{AppendsPrefix}
+use Rattle.outside_net.specs.Told.{AppendsPrefix}
 use Rattle.command_core.specs.declared.fault.Fault.{Fault}
 use Rattle.command_core.specs.declared.fault.Fault.TheVariants.{Own, Read, Memory as want}
 use Rattle.command_core.specs.Causes.{HasReadOn, IsReadFault}
@@ -157,7 +157,7 @@ edit_meaning host stop = record {
   line = edit_line;
   status = edit_status;
   is_done = IsEditDone host stop;
-  is_begun = IsEditDone host stop;
+  is_begun = λ before after front last. IsEditDone host stop before after last × (front ≡ []);
   stops = λ before after fault front. StopsEdit host stop before after fault × (front ≡ []);
   promises = EditPromises host stop;
 }

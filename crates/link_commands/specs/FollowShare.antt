@@ -33,22 +33,25 @@ lines_of m listings = round_lines (all_applied m.held listings)
 
 -- ---- how far it came
 
--- some rounds were made, and the connection was closed after them
-pub record HasRounds (host : List ℕ) (m : Mirrored) (rounds : ℕ) (link : LinkSeen) (output : List ℕ) : Type 0 where
+-- some rounds were made, and the connection was closed after them: `front` is the lines of the earlier ones, and `line`
+-- that of the last
+pub record HasRounds (host : List ℕ) (m : Mirrored) (rounds : ℕ) (link : LinkSeen) (front line : List ℕ) : Type 0 where
   pub known : Known
-  pub listings : List Listing
+  pub earlier : List Listing
+  pub last : Listing
   pub there : Point
-  pub walks : Walks host m rounds Begun (start_of link) (Holding known listings) there
+  pub walks : Walks host m rounds Begun (start_of link) (Holding known (earlier ++ last ∷ [])) there
   pub written : there.taken ≡ link.taken
-  pub some : 1 ≤ length listings
-  pub lines : output ≡ lines_of m listings
+  pub lines : front ≡ lines_of m earlier
+  pub all_lines : front ++ line ≡ lines_of m (earlier ++ last ∷ [])
 
--- the lines are those of these listings; only if an allocation failed may the last of them be missing
+-- the lines are those of these listings; only if an allocation failed may that of the last one be missing
 pub record AreLinesOf (e : FollowError) (m : Mirrored) (listings : List Listing) (front : List ℕ) : Type 0 where
   pub told : List Listing
   pub others : List Listing
   pub split : listings ≡ told ++ others
   pub only : e ≢ Memory → others ≡ []
+  pub few : length others ≤ 1
   pub lines : front ≡ lines_of m told
 
 -- it stopped with `e`, after these lines
@@ -81,11 +84,11 @@ pub record IsFollowDone (host : List ℕ) (rounds : ℕ) (query meta : Option (L
   pub followed : HasFollowed host m rounds link applied now
   pub written : output ≡ round_lines applied ++ shown_rows now.held.rows
 
--- the output may fail in the line of a round, or in the rows
-abbrev pub IsFollowBegun : List ℕ → ℕ → (query meta : Option (List ℕ)) → Target → Seen → Seen → List ℕ → Type 0
-IsFollowBegun host rounds query meta target before after output =
-    IsFollowDone host rounds query meta target before after output
-    ⊎ ((m : Mirrored) × (link : LinkSeen) × IsLinkedFor host query meta target before after m link × HasRounds host m rounds link output × (link.faults ≡ 0))
+-- the output may fail in the rows, or in the line of a round; then no further request was sent
+abbrev pub IsFollowBegun : List ℕ → ℕ → (query meta : Option (List ℕ)) → Target → Seen → Seen → (front last : List ℕ) → Type 0
+IsFollowBegun host rounds query meta target before after front last =
+    ((done : IsFollowDone host rounds query meta target before after (front ++ last)) × (front ≡ round_lines done.applied))
+    ⊎ ((m : Mirrored) × (link : LinkSeen) × IsLinkedFor host query meta target before after m link × HasRounds host m rounds link front last × (link.faults ≡ 0))
 
 -- ---- errors
 

@@ -1,8 +1,8 @@
 -- What a command leaves of a network on which it made one connection.
-use Rattle.std.specs.Prelude.{◌≡◌, ℕ, Bool, List, [], ◌∷◌, Option, Some, IfSome}
-use Rattle.daap_outside.specs.Counts.{Rose, RisesWith}
-use Rattle.daap_outside.specs.Places.{returned}
-use Rattle.daap_outside.specs.Told.{BeginsEmpty, Grows, GrowsByTold}
+use Rattle.std.specs.Prelude.{◌≡◌, ℕ, List, [], ◌∷◌, Option, Some, IfSome}
+use Rattle.outside_net.specs.Counts.{Rose, RisesWith}
+use Rattle.outside_net.specs.Places.{returned}
+use Rattle.outside_net.specs.Told.{BeginsEmpty, Grows, GrowsByTold}
 use Rattle.command_core.specs.Seen.{IsUnread, NetSeen, Seen}
 use Rattle.mirror_client.specs.Points.{Point, nothing_read, place}
 
@@ -27,7 +27,7 @@ pub record HasLinked (host : List ℕ) (before after : NetSeen) (link : LinkSeen
   pub begun : BeginsEmpty before.written link.begun
   pub input : IfSome before.next_input (λ input. link.left ≡ Some input)
   pub written : GrowsByTold before.written after.written (returned link.taken link.faults)
-  pub doors : after.door_links ≡ before.door_links
+  pub listeners : after.listener_links ≡ before.listener_links
   pub count : RisesWith before.faults after.faults link.faults
 
 -- nothing was read, and the network is unchanged
@@ -39,5 +39,5 @@ pub record IsUntouched (before after : Seen) : Type 0 where
 pub record IsUnreached (host : List ℕ) (before after : NetSeen) : Type 0 where
   pub asked : Grows before.asked after.asked ((host, 0) ∷ [])
   pub written : after.written ≡ before.written
-  pub doors : after.door_links ≡ before.door_links
+  pub listeners : after.listener_links ≡ before.listener_links
   pub rose : Rose before.faults after.faults

@@ -1,12 +1,12 @@
 -- The specification of a command that reaches a share over a connection, and how a run of it ends.
 use Rattle.std.specs.Prelude.{◌≡◌, ◌⊎◌, ◌++◌, ◌∷◌, [], ℕ, List, None}
-use Rattle.daap_outside.specs.Counts.{Rose}
-use Rattle.daap_outside.specs.Told.{Grows}
+use Rattle.outside_net.specs.Counts.{Rose}
+use Rattle.outside_net.specs.Told.{Grows}
 use Rattle.command_core.specs.declared.fault.Fault.{Fault}
 use Rattle.command_core.specs.declared.outcome.Outcome.{Outcome}
 use Rattle.command_core.specs.Endings.{Ending, Done, OutputCut, Refused, LineCut, IsWritten, IsCut}
 use Rattle.command_core.specs.Faults.{fault_line, fault_status}
-use Rattle.command_core.specs.Seen.{Seen, Told}
+use Rattle.command_core.specs.Seen.{OutputSeen, Seen, Told}
 
 -- of every run: it connects at most once; the network's error counter rose if the status reports a network failure, and
 -- did not if the run succeeded
@@ -22,8 +22,8 @@ pub record LinkMeaning : Type 1 where
   pub status : fault → ℕ
   -- it succeeds, with this output
   pub is_done : Seen → Seen → List ℕ → Type 0
-  -- what it had to write if the output failed
-  pub is_begun : Seen → Seen → List ℕ → Type 0
+  -- what it had written, and what it had to write next, when the output failed
+  pub is_begun : Seen → Seen → (front last : List ℕ) → Type 0
   -- an error ends it, by its cause, after this prefix of the output
   pub stops : Seen → Seen → Fault fault → List ℕ → Type 0
   -- what follows for a run and its status if enough is known of the outside
@@ -35,14 +35,28 @@ ending_status m (OutputCut output) = 5
 ending_status m (Refused front fault) = fault_status m.status fault
 ending_status m (LineCut front fault) = 5
 
+-- `front` was written whole, and then the output failed in `last`
+pub record IsCutBehind (before after : OutputSeen) (front last : List ℕ) : Type 0 where
+  pub at_cut : OutputSeen
+  pub written : IsWritten before at_cut front
+  pub cut : IsCut at_cut after last
+
+-- the output failed in the last part of `output`, and nothing was done since
+pub record IsOutputCut (m : LinkMeaning) (told : Told) (output : List ℕ) : Type 0 where
+  pub front : List ℕ
+  pub last : List ℕ
+  pub is : output ≡ front ++ last
+  pub begun : m.is_begun told.before told.after front last
+  pub cut : IsCutBehind told.output_before told.output_after front last
+
 -- the ways in which a run may end
 abbrev pub Happens : (m : LinkMeaning) → Told → Ending m.fault → Type 0
 Happens m told (Done output) = m.is_done told.before told.after output × IsWritten told.output_before told.output_after output
-Happens m told (OutputCut output) = m.is_begun told.before told.after output × IsCut told.output_before told.output_after output
+Happens m told (OutputCut output) = IsOutputCut m told output
 Happens m told (Refused front fault) =
     m.stops told.before told.after fault front × IsWritten told.output_before told.output_after (front ++ fault_line m.line fault)
 Happens m told (LineCut front fault) =
-    m.stops told.before told.after fault front × IsCut told.output_before told.output_after (front ++ fault_line m.line fault)
+    m.stops told.before told.after fault front × IsCutBehind told.output_before told.output_after front (fault_line m.line fault)
 
 -- the run ended in one of them, with its status
 abbrev pub LinkEnds : (m : LinkMeaning) → Told → ℕ → Type 0

@@ -1,5 +1,5 @@
 -- Rounds of a client that follows, with a line on the output after each: how they end early.
-use Rattle.std.specs.Prelude.{◌≡◌, ◌≢◌, ◌++◌, ◌∷◌, [], ℕ, List, Option}
+use Rattle.std.specs.Prelude.{◌≡◌, ◌≢◌, ◌≤◌, ◌++◌, ◌∷◌, [], ℕ, List, length, Option}
 use Rattle.share_history.specs.Listings.{Listing}
 use Rattle.mirror_core.specs.declared.mirror.Applied.{Applied}
 use Rattle.mirror_core.specs.Mirrored.{Mirrored}
@@ -15,6 +15,7 @@ use Rattle.link_commands.specs.declared.rounds.Stop.{Stop}
 use Rattle.link_commands.specs.declared.rounds.Stop.TheVariants.{Output, Link}
 use Rattle.link_commands.specs.FollowShare.{HasRounds, StopsBehind}
 use Rattle.link_commands.specs.Linked.{LinkSeen}
+use Rattle.link_commands.specs.Meanings.{IsCutBehind}
 use Rattle.link_commands.specs.RoundLines.{round_line}
 
 -- one more round was made from stage `s`, and its line was written
@@ -41,6 +42,7 @@ pub record AreAtMost (e : FollowError) (listings ls : List Listing) : Type 0 whe
   pub others : List Listing
   pub split : listings ≡ ls ++ others
   pub only : e ≢ Memory → others ≡ []
+  pub few : length others ≤ 1
 
 -- the exchange ended early, and nothing was written
 pub record StopsRound (host : List ℕ) (m now : Mirrored) (rounds : ℕ) (ls : List Listing) (s : Stage) (p : Point) (taken : Option (List ℕ)) (e : FollowError) (before after : OutputSeen) : Type 0 where
@@ -66,10 +68,11 @@ EndsLine done before after (Link e) = (e ≡ Memory) × (after ≡ before)
 
 -- the output failed in the line of a round, after the lines before it
 pub record CutsRounds (host : List ℕ) (m : Mirrored) (rounds : ℕ) (link : LinkSeen) (before after : OutputSeen) : Type 0 where
-  pub lines : List ℕ
-  pub has : HasRounds host m rounds link lines
+  pub front : List ℕ
+  pub line : List ℕ
+  pub has : HasRounds host m rounds link front line
   pub faultless : link.faults ≡ 0
-  pub cut : IsCut before after lines
+  pub cut : IsCutBehind before after front line
 
 -- the exchange ended early, after these lines
 pub record StopsRounds (host : List ℕ) (m : Mirrored) (rounds : ℕ) (link : LinkSeen) (e : FollowError) (before after : OutputSeen) : Type 0 where

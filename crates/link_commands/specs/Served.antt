@@ -1,6 +1,6 @@
 -- What is promised if the bytes of the next connection are the responses of a share, at lengths of its history.
-use Rattle.std.specs.Prelude.{◌≡◌, ◌⊎◌, ◌≤◌, ℕ, List, ◌∷◌, ◌++◌, Bool, true, false, length, Option, Some, Ok}
-use Rattle.daap_outside.specs.Counts.{Rose}
+use Rattle.std.specs.Prelude.{◌≡◌, ◌⊎◌, ◌≤◌, ℕ, List, ◌∷◌, Bool, true, false, length, Option, Some, Ok}
+use Rattle.outside_net.specs.Counts.{Rose}
 use Rattle.item_model.specs.declared.changes.Edit.{Edit}
 use Rattle.item_model.specs.declared.changes.Entry.{Entry}
 use Rattle.item_model.specs.declared.request.Target.{Target}
@@ -9,18 +9,14 @@ use Rattle.share_asks.specs.declared.ask.Want.TheVariants as want
 use Rattle.share_replies.specs.Settings.{Settings}
 use Rattle.share_replies.specs.Replies.{Reply, Replies, answer_to}
 use Rattle.reply_bytes.specs.ReplyBytes.{reply_bytes}
-use Rattle.command_core.specs.Endings.{IsWritten}
 use Rattle.command_core.specs.ReadRecords.{records_limit}
 use Rattle.command_core.specs.Seen.{Told}
-use Rattle.mirror_core.specs.declared.mirror.Applied.{Applied}
 use Rattle.mirror_core.specs.Mirrored.{Mirrored}
-use Rattle.followed_shares.specs.Laws.{last_revision, rows_at}
 use Rattle.followed_shares.specs.Served.{ServesRun}
 use Rattle.share_history.specs.Whole.{IsWhole}
 use Rattle.link_commands.specs.Decided.{DecidesEdit, DecidesFollow, IsOrMemory, IsTextRefused}
 use Rattle.link_commands.specs.Looks.{AsksMirror}
 use Rattle.link_commands.specs.Meanings.{KeepsNet}
-use Rattle.link_commands.specs.RoundLines.{round_lines, shown_rows}
 
 -- no error was counted on the input, the output and the network
 pub record IsFaultless (told : Told) : Type 0 where
@@ -30,26 +26,18 @@ pub record IsFaultless (told : Told) : Type 0 where
 
 -- ---- follow
 
--- the texts select a mirror, and the bytes to come are a share's responses to it, for `rounds` rounds
+-- the texts select this mirror, and the bytes to come are a share's responses to it, for `rounds` rounds
 pub record ServesMirror (s : Settings) (h : List Entry) (rounds : ℕ) (query meta : Option (List ℕ)) (target : Target) (told : Told) : Type 0 where
   pub whole : IsWhole h
   pub bytes : List ℕ
   pub next : told.before.around.net.next_input ≡ Some bytes
   pub m : Mirrored
   pub asks : AsksMirror query meta target m
-  pub run : (k : Mirrored) → AsksMirror query meta target k → ServesRun s k.target k.query k.meta h bytes
-  pub rounds_are : (k : Mirrored) (asked : AsksMirror query meta target k) → length ((run k asked).first ∷ (run k asked).others) ≡ rounds
-
--- the lines of the rounds, and then the rows that the share had at the revision of the last line
-pub record ShowsTheShare (h : List Entry) (query meta : Option (List ℕ)) (target : Target) (told : Told) : Type 0 where
-  pub m : Mirrored
-  pub asks : AsksMirror query meta target m
-  pub applied : List Applied
-  pub shown : IsWritten told.output_before told.output_after (round_lines applied ++ shown_rows (rows_at h m.target m.query m.meta (last_revision applied)))
+  pub run : ServesRun s m.target m.query m.meta h bytes
+  pub rounds_are : length (run.first ∷ run.others) ≡ rounds
 
 pub record FollowPromises (host : List ℕ) (rounds : ℕ) (query meta : Option (List ℕ)) (target : Target) (told : Told) (status : ℕ) : Type 0 where
   pub net : KeepsNet host told status
-  pub shows : (s : Settings) (h : List Entry) → ServesMirror s h rounds query meta target told → status ≡ 0 → ShowsTheShare h query meta target told
   pub goes_on : (s : Settings) (h : List Entry) → ServesMirror s h rounds query meta target told → IsFaultless told → (status ≡ 0) ⊎ (status ≡ 9)
   -- refused texts decide the status if the output did not fail
   pub refused : (Rose told.output_before.faults told.output_after.faults → ⊥) → IsTextRefused query meta → IsOrMemory 3 status

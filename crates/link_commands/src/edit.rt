@@ -1,7 +1,7 @@
 //! The command `edit`: sends records or a stop to a share.
 
 ghost use Rattle.std.specs.Prelude.{◌≡◌, ◌++◌, Bool, Ok, IfOk, IfErr, MatchResult, option_copied};
-ghost use Rattle.command_core.specs.Seen.{FilesSeen, InputSeen, input_seen, net_seen, output_seen, told_over};
+ghost use Rattle.command_core.specs.Seen.{FilesSeen, InputSeen, input_of, net_of, output_of, told_over};
 ghost use Rattle.mirror_client.specs.declared.pushing.Pushed.{Pushed};
 ghost use Rattle.link_commands.specs.EditShare.{HasBody, HasPushed, HasSent, IsToldFault, StopsSending, edit_line, edit_meaning, edit_status, push_fault, shown_text, told_of};
 ghost use Rattle.link_commands.specs.Linked.{link_seen};
@@ -9,9 +9,9 @@ ghost use Rattle.link_commands.specs.Meanings.{IsLinkAnswered};
 
 use crate::answer::{link_line, link_status, number_line};
 use command_core::{Fault, Outcome, Refusal, read_fault, write_error, write_result};
-use daap_outside::{Failed, Link, Net, Sink, Source, read_within};
 use dmap_tags::Bytes;
 use mirror_client::{FollowError, Pushed, push_link};
+use outside_net::{Failed, Link, Net, Sink, Source, read_within};
 use std::alloc::{AllocError, Global};
 
 /// The input may have at most this many bytes.
@@ -84,19 +84,19 @@ pub fn edit_share<I: Source, W: Sink, N: Net>(
 ) -> Outcome
     ensures answered { (files : FilesSeen) → IsLinkAnswered (edit_meaning place.now stop)
         (told_over files
-        (input_seen (I.left input.old) (I.faults input.old))
-        (input_seen (I.left input.new) (I.faults input.new))
-        (net_seen (N.asked net.old) (N.written net.old) (N.door_links net.old) (N.next_input net.old) (N.faults net.old))
-        (net_seen (N.asked net.new) (N.written net.new) (N.door_links net.new) (N.next_input net.new) (N.faults net.new))
-        (output_seen (W.taken output.old) (W.faults output.old))
-        (output_seen (W.taken output.new) (W.faults output.new)))
+        (input_of I.Source input.old)
+        (input_of I.Source input.new)
+        (net_of N.Net net.old)
+        (net_of N.Net net.new)
+        (output_of W.Sink output.old)
+        (output_of W.Sink output.new))
         result }
     ensures open_stays { N.open_count net.new ≡ N.open_count net.old }
 {
     match net.connect(place) {
         Ok(mut link) => {
             let answer = sent(alloc, place, stop, input, &mut link);
-            net.hang_up(link);
+            net.close(link);
             write_result(alloc, output, answer)
         }
         Err(Failed) => write_error(alloc, output, &Fault::Own(EditFault::Unreached)),
@@ -112,9 +112,9 @@ fn sent<I: Source, K: Link>(
     link: &mut K,
 ) -> Result<Vec<u8>, Fault<EditFault>>
     requires { K.faults link.old ≡ 0 }
-    ensures sent { IfOk result (λ bytes. (made : Pushed) × HasSent place.now stop (input_seen (I.left input.old) (I.faults input.old)) (input_seen (I.left input.new) (I.faults input.new))
+    ensures sent { IfOk result (λ bytes. (made : Pushed) × HasSent place.now stop (input_of I.Source input.old) (input_of I.Source input.new)
         (link_seen (K.taken link.old) (K.left link.old) (K.taken link.new) (K.faults link.new)) made × (told_of made ≡ Ok bytes.items)) }
-    ensures stops { IfErr result (λ fault. StopsSending place.now stop (input_seen (I.left input.old) (I.faults input.old)) (input_seen (I.left input.new) (I.faults input.new))
+    ensures stops { IfErr result (λ fault. StopsSending place.now stop (input_of I.Source input.old) (input_of I.Source input.new)
         (link_seen (K.taken link.old) (K.left link.old) (K.taken link.new) (K.faults link.new)) fault) }
 {
     if stop {

@@ -1,7 +1,7 @@
 //! The command `follow`: mirrors one listing of a share.
 
 ghost use Rattle.std.specs.Prelude.{◌≡◌, ◌≤◌, option_copied, MatchResult};
-ghost use Rattle.command_core.specs.Seen.{FilesSeen, InputSeen, net_seen, output_seen, told_over};
+ghost use Rattle.command_core.specs.Seen.{FilesSeen, InputSeen, net_of, output_of, told_over};
 ghost use Rattle.link_commands.specs.FollowShare.{follow_line, follow_meaning, follow_status, link_fault};
 ghost use Rattle.link_commands.specs.Meanings.{IsLinkAnswered};
 ghost use Rattle.link_commands.specs.Ended.{TellsRows, TellsStop};
@@ -11,12 +11,12 @@ use crate::look::mirror_for;
 use crate::rounds::{Stop, follow_rounds};
 use crate::shown::shown_rows;
 use command_core::{Fault, Outcome, Refusal, out_of_memory, write_error, write_output};
-use daap_outside::{Failed, Net, Sink};
 use dmap_tags::Text;
 use fault_lines::query_line;
 use item_model::{QueryError, Target};
 use mirror_client::FollowError;
 use mirror_core::Mirror;
+use outside_net::{Failed, Net, Sink};
 use std::alloc::{AllocError, Global};
 
 /// Errors of `follow`. Out of memory is `Fault::Memory`.
@@ -72,10 +72,10 @@ pub fn follow_share<W: Sink, N: Net>(
     requires few { rounds ≤ 16384 }
     ensures answered { (files : FilesSeen) (input : InputSeen) → IsLinkAnswered (follow_meaning place.now rounds (option_copied query.entry) (option_copied meta.entry) target)
         (told_over files input input
-        (net_seen (N.asked net.old) (N.written net.old) (N.door_links net.old) (N.next_input net.old) (N.faults net.old))
-        (net_seen (N.asked net.new) (N.written net.new) (N.door_links net.new) (N.next_input net.new) (N.faults net.new))
-        (output_seen (W.taken output.old) (W.faults output.old))
-        (output_seen (W.taken output.new) (W.faults output.new)))
+        (net_of N.Net net.old)
+        (net_of N.Net net.new)
+        (output_of W.Sink output.old)
+        (output_of W.Sink output.new))
         result }
     ensures open_stays { N.open_count net.new ≡ N.open_count net.old }
 {
@@ -86,7 +86,7 @@ pub fn follow_share<W: Sink, N: Net>(
     match net.connect(place) {
         Ok(mut link) => {
             let end = follow_rounds(alloc, place, rounds, &mut mirror, &mut link, output);
-            net.hang_up(link);
+            net.close(link);
             ended(alloc, &mirror, end, output)
         }
         Err(Failed) => write_error(alloc, output, &Fault::Own(FollowFault::Unreached)),
@@ -96,8 +96,8 @@ pub fn follow_share<W: Sink, N: Net>(
 /// Writes the rows that the mirror holds after the last round, or the line of the error that ended the rounds.
 fn ended<W: Sink>(alloc: Global, mirror: &Mirror, end: Result<(), Stop>, output: &mut W) -> Outcome
     ensures { MatchResult end
-        (λ _. TellsRows mirror.now.held.rows (output_seen (W.taken output.old) (W.faults output.old)) (output_seen (W.taken output.new) (W.faults output.new)) result)
-        (λ stop. TellsStop stop (output_seen (W.taken output.old) (W.faults output.old)) (output_seen (W.taken output.new) (W.faults output.new)) result) }
+        (λ _. TellsRows mirror.now.held.rows (output_of W.Sink output.old) (output_of W.Sink output.new) result)
+        (λ stop. TellsStop stop (output_of W.Sink output.old) (output_of W.Sink output.new) result) }
 {
     match end {
         Ok(()) => match shown_rows(alloc, mirror) {

@@ -6,7 +6,7 @@ ghost use Rattle.share_history.specs.Listings.{Listing};
 ghost use Rattle.mirror_core.specs.Mirrored.{Mirrored};
 ghost use Rattle.mirror_core.specs.declared.mirror.Applied.{Applied};
 ghost use Rattle.command_core.specs.Endings.{IsWritten};
-ghost use Rattle.command_core.specs.Seen.{output_seen};
+ghost use Rattle.command_core.specs.Seen.{output_of};
 ghost use Rattle.mirror_client.specs.Points.{place};
 ghost use Rattle.mirror_client.specs.Stages.{Asking, Holding};
 ghost use Rattle.mirror_client.specs.Steps.{with_listings};
@@ -16,9 +16,9 @@ ghost use Rattle.link_commands.specs.RoundLines.{round_line, round_lines};
 ghost use Rattle.link_commands.specs.Rounds.{CountsStop, EndsLine, EndsRound, EndsRounds, TellsRound};
 
 use crate::shown::round_line;
-use daap_outside::{Link, Sink, put_all};
 use mirror_client::{FollowError, Follower};
 use mirror_core::{Applied, Mirror};
+use outside_net::{Link, Sink, put_all};
 use std::alloc::Global;
 
 /// Why rounds ended early.
@@ -45,9 +45,9 @@ pub(crate) fn follow_rounds<K: Link, W: Sink>(
     requires fresh { K.faults link.old ≡ 0 }
     ensures followed { OnOk result ((applied : List Applied)
         × HasFollowed host.now mirror.old rounds (link_seen (K.taken link.old) (K.left link.old) (K.taken link.new) (K.faults link.new)) applied mirror.new
-        × IsWritten (output_seen (W.taken output.old) (W.faults output.old)) (output_seen (W.taken output.new) (W.faults output.new)) (round_lines applied)) }
+        × IsWritten (output_of W.Sink output.old) (output_of W.Sink output.new) (round_lines applied)) }
     ensures ends { IfErr result (λ stop. EndsRounds host.now mirror.old rounds (link_seen (K.taken link.old) (K.left link.old) (K.taken link.new) (K.faults link.new))
-        (output_seen (W.taken output.old) (W.faults output.old)) (output_seen (W.taken output.new) (W.faults output.new)) stop) }
+        (output_of W.Sink output.old) (output_of W.Sink output.new) stop) }
 {
     let mut follower = match Follower::open(alloc, link, host) {
         Ok(follower) => follower,
@@ -81,10 +81,10 @@ fn tell_round<K: Link, W: Sink>(
     requires asks { MayAsk mirror.old.query }
     ensures tells { OnOk result ((m : Mirrored) (rounds : ℕ) (ls : List Listing) → mirror.old ≡ with_listings m ls
         → TellsRound follower.old.host follower.old.known m mirror.new rounds ls (Asking follower.old.known ls) (place (K.taken link.old) (K.left link.old) follower.old.ahead) (place (K.taken link.new) (K.left link.new) follower.new.ahead)
-        (output_seen (W.taken output.old) (W.faults output.old)) (output_seen (W.taken output.new) (W.faults output.new))) }
+        (output_of W.Sink output.old) (output_of W.Sink output.new)) }
     ensures ends { IfErr result (λ stop. (m : Mirrored) (rounds : ℕ) (ls : List Listing) → mirror.old ≡ with_listings m ls
         → EndsRound follower.old.host follower.old.known m mirror.new rounds ls (Asking follower.old.known ls) (place (K.taken link.old) (K.left link.old) follower.old.ahead) (K.taken link.new)
-        (output_seen (W.taken output.old) (W.faults output.old)) (output_seen (W.taken output.new) (W.faults output.new)) stop) }
+        (output_of W.Sink output.old) (output_of W.Sink output.new) stop) }
     ensures stays { (follower.new.host ≡ follower.old.host) × (follower.new.known ≡ follower.old.known) }
     ensures calls { follower.new.calls ≡ follower.old.calls + 1 }
     ensures query { mirror.new.query ≡ mirror.old.query }
@@ -99,8 +99,8 @@ fn tell_round<K: Link, W: Sink>(
 // Writes the line of a round.
 fn tell<W: Sink>(alloc: Global, done: Applied, output: &mut W) -> Result<(), Stop>
     ensures { MatchResult result
-        (λ _. IsWritten (output_seen (W.taken output.old) (W.faults output.old)) (output_seen (W.taken output.new) (W.faults output.new)) (round_line done))
-        (λ stop. EndsLine done (output_seen (W.taken output.old) (W.faults output.old)) (output_seen (W.taken output.new) (W.faults output.new)) stop) }
+        (λ _. IsWritten (output_of W.Sink output.old) (output_of W.Sink output.new) (round_line done))
+        (λ stop. EndsLine done (output_of W.Sink output.old) (output_of W.Sink output.new) stop) }
 {
     match round_line(alloc, done) {
         Ok(line) => match put_all(output, line.as_slice()) {
@@ -123,10 +123,10 @@ fn tell_next<K: Link, W: Sink>(
     requires asks { MayAsk mirror.old.query }
     ensures tells { OnOk result ((m : Mirrored) (rounds : ℕ) (ls : List Listing) → mirror.old ≡ with_listings m ls → (length ls == rounds) ≡ false
         → TellsRound follower.old.host follower.old.known m mirror.new rounds ls (Holding follower.old.known ls) (place (K.taken link.old) (K.left link.old) follower.old.ahead) (place (K.taken link.new) (K.left link.new) follower.new.ahead)
-        (output_seen (W.taken output.old) (W.faults output.old)) (output_seen (W.taken output.new) (W.faults output.new))) }
+        (output_of W.Sink output.old) (output_of W.Sink output.new)) }
     ensures ends { IfErr result (λ stop. (m : Mirrored) (rounds : ℕ) (ls : List Listing) → mirror.old ≡ with_listings m ls → (length ls == rounds) ≡ false
         → EndsRound follower.old.host follower.old.known m mirror.new rounds ls (Holding follower.old.known ls) (place (K.taken link.old) (K.left link.old) follower.old.ahead) (K.taken link.new)
-        (output_seen (W.taken output.old) (W.faults output.old)) (output_seen (W.taken output.new) (W.faults output.new)) stop) }
+        (output_of W.Sink output.old) (output_of W.Sink output.new) stop) }
     ensures stays { (follower.new.host ≡ follower.old.host) × (follower.new.known ≡ follower.old.known) }
     ensures calls { follower.new.calls ≤ follower.old.calls + 2 }
     ensures query { mirror.new.query ≡ mirror.old.query }

@@ -5,9 +5,9 @@ use Rattle.std.proofs.Math.Seq.{take-append-add, take-append_seam}
 use Rattle.std.proofs.KnownBytes.{Appends-nil, Appends-trans}
 use Rattle.std.specs.Io.KnownBytes.{Appends}
 use Rattle.std.specs.Prelude.{take, IsErr, OnOk, OnErr}
-use Rattle.daap_outside.specs.Counts.{CountsFaults, Rose}
-use Rattle.daap_outside.specs.Told.{AppendsPrefix}
-use Rattle.daap_outside.specs.Faults.{Failed}
+use Rattle.outside_net.specs.Counts.{CountsFaults, Rose}
+use Rattle.outside_net.specs.Told.{AppendsPrefix}
+use Rattle.outside_net.specs.Faults.{Failed}
 use Rattle.listing_plan.specs.Pages.{Moved, Pushes}
 
 -- bytes were put after the first ones

@@ -1,9 +1,9 @@
 -- Where pushed bytes go: onto a page, and full pages to a sink.
 use Rattle.std.specs.Prelude.{◌≡◌, ℕ, List, ◌++◌, Option, Result, OnOk, OnErr}
 use Rattle.std.specs.Io.KnownBytes.{Appends}
-use Rattle.daap_outside.specs.Counts.{Rose}
-use Rattle.daap_outside.specs.Told.{AppendsPrefix}
-use Rattle.daap_outside.specs.Faults.{Failed}
+use Rattle.outside_net.specs.Counts.{Rose}
+use Rattle.outside_net.specs.Told.{AppendsPrefix}
+use Rattle.outside_net.specs.Faults.{Failed}
 
 -- of the old page and the bytes after it the sink took a prefix, and the rest is the page now
 pub record Moved (bytes : List ℕ) (told now : Option (List ℕ)) (page page' : List ℕ) : Type 0 where

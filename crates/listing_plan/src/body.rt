@@ -15,9 +15,9 @@ use crate::lengths::{HEAD_LEN, NUMBER_LEN};
 use crate::page::Page;
 use crate::plan::Scope;
 use crate::tags::push_head;
-use daap_outside::{Failed, Sink};
 use dmap_tags::Code;
 use item_model::Target;
+use outside_net::{Failed, Sink};
 use share_history::key_code;
 
 /// How many bytes a body has before its rows, not counting its own head.

@@ -16,8 +16,8 @@ use crate::page::Page;
 use crate::row::PlanRow;
 use crate::rows::push_rows;
 use crate::sheets::{push_sheets, sheets_len};
-use daap_outside::{Failed, Sink};
 use item_model::{ShownProperties, Target};
+use outside_net::{Failed, Sink};
 use row_sheets::RowSheets;
 
 /// Rows in the order in which a listing has them.

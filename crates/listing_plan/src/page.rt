@@ -7,8 +7,8 @@ ghost use Rattle.dmap_tags.specs.Spelling.{spelling};
 ghost use Rattle.dmap_tags.specs.Tree.{leaf, U32};
 ghost use Rattle.listing_plan.specs.Pages.{Pushes};
 
-use daap_outside::{Failed, Sink, put_all};
 use dmap_tags::Code;
+use outside_net::{Failed, Sink, put_all};
 use std::marker::Model;
 
 /// The size of the page of a long body, in bytes. Each page is one write to a connection.

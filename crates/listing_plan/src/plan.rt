@@ -2,8 +2,8 @@
 
 ghost use Rattle.std.specs.Prelude.{◌≡◌, ◌≤◌, ◌*◌, ◌++◌, [], length, true, OnOk, OnErr, if◌then◌else◌};
 ghost use Rattle.std.specs.Io.KnownBytes.{Appends};
-ghost use Rattle.daap_outside.specs.Counts.{Rose};
-ghost use Rattle.daap_outside.specs.Told.{AppendsPrefix};
+ghost use Rattle.outside_net.specs.Counts.{Rose};
+ghost use Rattle.outside_net.specs.Told.{AppendsPrefix};
 ghost use Rattle.dmap_tags.specs.Spelling.{payload, spelling, is_spellable};
 ghost use Rattle.share_history.specs.Bodies.{body_tree};
 ghost use Rattle.listing_plan.specs.Plans.{AreRowsOf, AreGone, full_keyed, full_plan, delta_plan, plan_bytes, IsWritable};
@@ -18,9 +18,9 @@ use crate::listed::{Listed, own_ids};
 use crate::page::{PAGE_BYTES, Page, SHORT_PAGE_BYTES};
 use crate::row::PlanRow;
 use crate::tags::{push_measured, tag_len, value_len};
-use daap_outside::{Failed, Sink, put_all};
 use dmap_tags::{Bytes, Code, Tag};
 use item_model::{Meta, ShownProperties, Target};
+use outside_net::{Failed, Sink, put_all};
 use row_sheets::RowSheets;
 use share_history::body_code;
 use std::marker::Model;

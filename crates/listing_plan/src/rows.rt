@@ -13,9 +13,9 @@ ghost use Rattle.listing_plan.specs.Pages.{Pushes};
 use crate::lengths::{HEAD_LEN, row_len};
 use crate::page::Page;
 use crate::row::PlanRow;
-use daap_outside::{Failed, Sink};
 use dmap_tags::{Code, Kind};
 use item_model::{Item, PropValue, Property};
+use outside_net::{Failed, Sink};
 
 pub(crate) fn push_rows<W: Sink, const N: usize>(
     page: &mut Page<N>,

@@ -9,8 +9,8 @@ ghost use Rattle.listing_plan.specs.Runs.{IsSheetRow, IsWithin, front_bytes, fro
 use crate::lengths::{HEAD_LEN, NUMBER_LEN};
 use crate::page::Page;
 use crate::runs::Run;
-use daap_outside::{Failed, Sink};
 use item_model::{SharedRow, Target};
+use outside_net::{Failed, Sink};
 use row_sheets::{RowTags, Sheet};
 
 /// The length of the head and the key of an item.

@@ -15,8 +15,8 @@ ghost use Rattle.listing_plan.specs.Runs.{AreRuns, IsSheetRow, front_length, she
 use crate::page::Page;
 use crate::runs::{Run, Runs};
 use crate::sheet_row::{SheetRow, fronts_len};
-use daap_outside::{Failed, Sink};
 use item_model::{Property, Target};
+use outside_net::{Failed, Sink};
 use row_sheets::{RowSheets, Sheet, index_of};
 
 /// Returns the length of the tags of all rows.

@@ -10,8 +10,8 @@ ghost use Rattle.listing_plan.specs.Pages.{Pushes};
 ghost use Rattle.listing_plan.specs.declared.tags.Payload.TheVariants.{Bytes, Members};
 
 use crate::page::Page;
-use daap_outside::{Failed, Sink, put_all};
 use dmap_tags::{Code, Tag, Value, encoded_len};
+use outside_net::{Failed, Sink, put_all};
 
 /// How many bytes the longest number has.
 const NUMBER_BYTES: usize = 8;

@@ -8,7 +8,7 @@ use Rattle.http_heads.specs.Messages.{print_message}
 use Rattle.http_client.specs.Replies.{Reply}
 use Rattle.mirror_client.specs.declared.refusal.FollowError.{FollowError}
 use Rattle.mirror_client.specs.declared.refusal.FollowError.TheVariants.{Refused, BadReply, Ended, Listing, Codes, LinkFault, Memory}
-use Rattle.mirror_client.specs.Exchanges.{AreAnswered, Exchange, Exchanged, Replied, Went, messages, requests}
+use Rattle.mirror_client.specs.Exchanges.{AreAnswered, Exchange, Exchanged, Replied, Transcript, messages, requests}
 use Rattle.mirror_client.specs.Points.{Point, point}
 use Rattle.mirror_client.specs.Stopping.{NoReply, Stops, StopsShort}
 
@@ -77,7 +77,7 @@ unexpected_stops request Unexpected p q answer e x unexpected = inr (record {
 
 -- ---- several exchanges
 
-pub went_nowhere : (p : Point) → Went p p []
+pub went_nowhere : (p : Point) → Transcript p p []
 went_nowhere p = record { written = Appends-nil p.taken; answered = tt; read = Consumes-nil p.owed; counted = omega arith }
 
 requests_both : (xs ys : List Exchange) → requests (xs ++ ys) ≡ requests xs ++ requests ys
@@ -93,7 +93,7 @@ answered_both : (xs ys : List Exchange) → AreAnswered xs → AreAnswered ys �
 answered_both [] ys h k = k
 answered_both (x ∷ xs) ys h k = (h.0, answered_both xs ys h.1 k)
 
-pub went_on : (p q r : Point) (xs ys : List Exchange) → Went p q xs → Went q r ys → Went p r (xs ++ ys)
+pub went_on : (p q r : Point) (xs ys : List Exchange) → Transcript p q xs → Transcript q r ys → Transcript p r (xs ++ ys)
 went_on p q r xs ys h k = record {
   written =
       subst (λ (bytes : List ℕ). Appends p.taken r.taken bytes) (sym (requests_both xs ys))

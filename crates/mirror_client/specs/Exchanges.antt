@@ -24,7 +24,7 @@ AreAnswered [] = ⊤
 AreAnswered (x ∷ xs) = IsReply x.message x.answer × AreAnswered xs
 
 -- These exchanges, one after another, lead from `p` to `q`.
-pub record Went (p q : Point) (xs : List Exchange) : Type 0 where
+pub record Transcript (p q : Point) (xs : List Exchange) : Type 0 where
   pub written : Appends p.taken q.taken (requests xs)
   pub answered : AreAnswered xs
   pub read : Consumes p.owed q.owed (messages xs)
@@ -33,7 +33,7 @@ pub record Went (p q : Point) (xs : List Exchange) : Type 0 where
 -- One exchange, with this request and this answer.
 pub record Exchanged (request : List ℕ) (p q : Point) (answer : Reply) : Type 0 where
   pub message : Message
-  pub went : Went p q (record { request = request; message = message; answer = answer } ∷ [])
+  pub went : Transcript p q (record { request = request; message = message; answer = answer } ∷ [])
 
 -- One response was read.
 pub record Replied (p q : Point) (answer : Reply) : Type 0 where

@@ -1,6 +1,7 @@
 -- The state of a client towards its peer.
 use Rattle.std.specs.Prelude.{ℕ, List, [], Option}
 use Rattle.std.specs.Io.KnownBytes.{prepend_known}
+use Rattle.outside_net.specs.Bounds.{Links}
 
 -- The bytes that were read and not used by a response, and how many bytes responses have used.
 pub record ReadAhead : Type 0 where
@@ -24,3 +25,11 @@ place taken left ahead = point taken left ahead.unused ahead.used
 -- Nothing was read yet.
 abbrev pub nothing_read : ReadAhead
 nothing_read = record { unused = []; used = 0 }
+
+-- The state of a client, by its connection and what it has read ahead.
+abbrev pub point_of : {K : Type 0} → Links K → K → ReadAhead → Point
+point_of g link ahead = place (g.taken link) (g.left link) ahead
+
+-- The state of a client that has read nothing of its connection.
+abbrev pub start_of : {K : Type 0} → Links K → K → Point
+start_of g link = point_of g link nothing_read

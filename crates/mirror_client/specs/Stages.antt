@@ -11,7 +11,7 @@ use Rattle.mirror_core.specs.Mirrored.{Mirrored}
 use Rattle.http_client.specs.Replies.{Reply}
 use Rattle.http_client.specs.Requests.{request_text}
 use Rattle.mirror_client.specs.declared.refusal.FollowError.{FollowError}
-use Rattle.mirror_client.specs.Exchanges.{Exchange, Went}
+use Rattle.mirror_client.specs.Exchanges.{Exchange, Transcript}
 use Rattle.mirror_client.specs.Points.{Point}
 use Rattle.mirror_client.specs.Steps.{Known, TellsListing, TellsTable, UnexpectedEnd, UnexpectedListing, UnexpectedTable, rows_want, with_listings}
 use Rattle.mirror_client.specs.Stopping.{Stops}
@@ -89,7 +89,7 @@ UnexpectedIn m rounds (Closed known listings) used answer e = ⊥
 pub record Walks (host : List ℕ) (m : Mirrored) (rounds : ℕ) (s : Stage) (p : Point) (t : Stage) (q : Point) : Type 0 where
   pub exchanges : List Exchange
   pub path : Path host m rounds s exchanges t
-  pub went : Went p q exchanges
+  pub went : Transcript p q exchanges
 
 -- Exchanges led from `s` to a stage whose request failed. The mirror holds what was applied before.
 pub record StopsFrom (host : List ℕ) (m : Mirrored) (rounds : ℕ) (s : Stage) (p : Point) (taken : Option (List ℕ)) (e : FollowError) (now : Mirrored) : Type 0 where

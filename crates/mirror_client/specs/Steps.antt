@@ -7,6 +7,8 @@ use Rattle.code_table.specs.declared.reply.CodeError.TheVariants as codes
 use Rattle.code_table.specs.declared.row.CodeRow.{CodeRow}
 use Rattle.code_table.specs.Reply.{table_of}
 use Rattle.code_table.specs.Standard.{standard_rows}
+use Rattle.item_model.specs.declared.request.Look.{Look}
+use Rattle.item_model.specs.declared.request.Target.{Target}
 use Rattle.share_asks.specs.declared.ask.Want.{Want}
 use Rattle.share_asks.specs.declared.ask.Want.TheVariants as want
 use Rattle.share_history.specs.Listings.{Listing}
@@ -54,20 +56,34 @@ UnexpectedTable used answer LinkFault = ⊥
 UnexpectedTable used answer Memory = ⊤
 
 -- Why a tag is not a table.
-abbrev pub IsUntold : Tree → FollowError → Type 0
-IsUntold tag (Refused status) = ⊥
-IsUntold tag (BadReply at) = ⊥
-IsUntold tag (Ended at) = ⊥
-IsUntold tag (ListingFault error) = ⊥
-IsUntold tag (Codes error) = (error ≢ codes.Memory) × (table_of tag ≡ Err error)
-IsUntold tag LinkFault = ⊥
-IsUntold tag Memory = ⊤
+abbrev pub IsNoTable : Tree → FollowError → Type 0
+IsNoTable tag (Refused status) = ⊥
+IsNoTable tag (BadReply at) = ⊥
+IsNoTable tag (Ended at) = ⊥
+IsNoTable tag (ListingFault error) = ⊥
+IsNoTable tag (Codes error) = (error ≢ codes.Memory) × (table_of tag ≡ Err error)
+IsNoTable tag LinkFault = ⊥
+IsNoTable tag Memory = ⊤
 
 -- ---- A listing.
 
 -- The next request of a mirror.
 abbrev pub rows_want : ℕ → Mirrored → Want
 rows_want session m = want.Rows session m.target (mirror_look m.query m.meta m.held.revision)
+
+-- The requests of a client: the next listing of a mirror, a listing that `look` selects, a revision other than the
+-- given one, and the end of its session.
+abbrev pub listing_request : Following → Mirrored → List ℕ
+listing_request f m = request_text (rows_want f.known.session m) f.host
+
+abbrev pub body_request : Following → Target → Look → List ℕ
+body_request f target look = request_text (want.Rows f.known.session target look) f.host
+
+abbrev pub update_request : Following → ℕ → List ℕ
+update_request f revision = request_text (want.Update f.known.session revision) f.host
+
+abbrev pub logout_request : Following → List ℕ
+logout_request f = request_text (want.Logout f.known.session) f.host
 
 -- The answer is a listing that the mirror applies.
 pub record TellsListing (rows : List CodeRow) (m : Mirrored) (answer : Reply) (listing : Listing) : Type 0 where

@@ -1,14 +1,15 @@
 -- Why an exchange failed, or got an unexpected answer.
-use Rattle.std.specs.Prelude.{◌≡◌, ◌⊎◌, ⊤, ℕ, ◌+◌, List, [], ◌∷◌, ◌++◌, length, Option, IfSome}
-use Rattle.daap_outside.specs.Counts.{Rose}
-use Rattle.daap_outside.specs.Told.{AppendsPrefix}
+use Rattle.std.specs.Prelude.{◌≡◌, ◌⊎◌, ⊤, ℕ, ◌+◌, List, [], ◌∷◌, ◌++◌, length, Option, IfSome, Result, MatchResult}
+use Rattle.outside_net.specs.Bounds.{Links}
+use Rattle.outside_net.specs.Counts.{Rose}
+use Rattle.outside_net.specs.Told.{AppendsPrefix}
 use Rattle.http_heads.specs.declared.kind.Kind.TheVariants as kind
 use Rattle.http_heads.specs.declared.refusal.HeadError.{HeadError}
 use Rattle.http_heads.specs.Messages.{HasNoMessage, IsRefused, Refuses}
 use Rattle.http_client.specs.Replies.{Reply}
 use Rattle.mirror_client.specs.declared.refusal.FollowError.{FollowError}
 use Rattle.mirror_client.specs.declared.refusal.FollowError.TheVariants.{Refused, BadReply, Ended, Listing, Codes, LinkFault, Memory}
-use Rattle.mirror_client.specs.Exchanges.{Exchange, Went}
+use Rattle.mirror_client.specs.Exchanges.{Exchange, Transcript}
 use Rattle.mirror_client.specs.Points.{Point}
 
 -- The bytes begin with a malformed response. The offset counts all bytes up to the one that shows it.
@@ -46,7 +47,7 @@ pub record AnswersUnexpected (request : List ℕ) (Unexpected : ℕ → Reply �
   pub exchange : Exchange
   pub there : Point
   pub asked : exchange.request ≡ request
-  pub went : Went p there (exchange ∷ [])
+  pub went : Transcript p there (exchange ∷ [])
   pub written : there.taken ≡ taken
   pub unexpected : Unexpected there.used exchange.answer e
 
@@ -62,3 +63,8 @@ CountsFault before now (Ended at) = now ≡ before
 CountsFault before now (Listing error) = now ≡ before
 CountsFault before now (Codes error) = now ≡ before
 CountsFault before now Memory = now ≡ before
+
+-- The error counter of a connection after a call: a success leaves it unchanged.
+abbrev pub CountsErrors : {K A : Type 0} → Links K → K → K → Result A FollowError → Type 0
+CountsErrors g old new result =
+    MatchResult result (λ _. g.faults new ≡ g.faults old) (λ e. CountsFault (g.faults old) (g.faults new) e)

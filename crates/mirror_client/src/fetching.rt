@@ -5,17 +5,17 @@ ghost use Rattle.dmap_tags.specs.Tree.{trees_of};
 ghost use Rattle.code_table.specs.Reply.{first_in, number_in};
 ghost use Rattle.http_client.specs.Replies.{Reply};
 ghost use Rattle.mirror_client.specs.Exchanges.{Exchanged};
-ghost use Rattle.mirror_client.specs.Points.{point};
-ghost use Rattle.mirror_client.specs.Stopping.{CountsFault, Stops};
+ghost use Rattle.mirror_client.specs.Points.{point_of};
+ghost use Rattle.mirror_client.specs.Stopping.{CountsErrors, Stops};
 ghost use Rattle.mirror_client.specs.Tellings.{HasNoTag, IsTag, Tells, TellsNumber, UnexpectedNumber, UnexpectedTag, number_told};
 
 use crate::exchanging::exchange;
 use crate::incoming::Incoming;
 use crate::refusal::FollowError;
 use code_table::CodeTable;
-use daap_outside::Link;
 use dmap_stream::{Limits, StreamError, read_tag};
 use dmap_tags::{Bytes, Code, Tag, Value};
+use outside_net::Link;
 use std::alloc::{AllocError, Global};
 
 // Most payload bytes of the tag of a body.
@@ -30,14 +30,16 @@ pub(crate) fn fetch<K: Link>(
     request: &[u8],
 ) -> Result<Tag, FollowError>
     requires few { incoming.old.used < 2 ^ 63 }
-    ensures told { IfOk result (λ tag. (answer : Reply) × Exchanged request.now (point (K.taken link.old) (K.left link.old) incoming.old.unused incoming.old.used)
-        (point (K.taken link.new) (K.left link.new) incoming.new.unused incoming.new.used) answer × Tells table.now answer tag) }
-    ensures stops { IfErr result (λ e. Stops request.now (UnexpectedTag table.now) (point (K.taken link.old) (K.left link.old) incoming.old.unused incoming.old.used) (K.taken link.new) e) }
+    ensures told { IfOk result (λ tag. (answer : Reply) × Exchanged request.now
+        (point_of K.Link link.old incoming.old) (point_of K.Link link.new incoming.new) answer
+        × Tells table.now answer tag) }
+    ensures stops { IfErr result (λ e. Stops request.now (UnexpectedTag table.now)
+        (point_of K.Link link.old incoming.old) (K.taken link.new) e) }
     ensures grows { incoming.new.used ≤ incoming.old.used + 2 ^ 31 }
-    ensures count { MatchResult result (λ _. K.faults link.new ≡ K.faults link.old) (λ e. CountsFault (K.faults link.old) (K.faults link.new) e) }
+    ensures count { CountsErrors K.Link link.old link.new result }
 {
     match exchange(alloc, link, incoming, request) {
-        Ok((status, body)) => reply_tag(alloc, table, incoming.used(), status, &body),
+        Ok((status, body)) => reply_tag(alloc, table, incoming.used_count(), status, &body),
         Err(error) => Err(error),
     }
 }
@@ -52,14 +54,23 @@ pub(crate) fn fetch_number<K: Link>(
     request: &[u8],
 ) -> Result<u32, FollowError>
     requires few { incoming.old.used < 2 ^ 63 }
-    ensures told { IfOk result (λ n. (answer : Reply) × Exchanged request.now (point (K.taken link.old) (K.left link.old) incoming.old.unused incoming.old.used)
-        (point (K.taken link.new) (K.left link.new) incoming.new.unused incoming.new.used) answer × TellsNumber code table.now answer n) }
-    ensures stops { IfErr result (λ e. Stops request.now (UnexpectedNumber code table.now) (point (K.taken link.old) (K.left link.old) incoming.old.unused incoming.old.used) (K.taken link.new) e) }
+    ensures told { IfOk result (λ n. (answer : Reply) × Exchanged request.now
+        (point_of K.Link link.old incoming.old) (point_of K.Link link.new incoming.new) answer
+        × TellsNumber code table.now answer n) }
+    ensures stops { IfErr result (λ e. Stops request.now (UnexpectedNumber code table.now)
+        (point_of K.Link link.old incoming.old) (K.taken link.new) e) }
     ensures grows { incoming.new.used ≤ incoming.old.used + 2 ^ 31 }
-    ensures count { MatchResult result (λ _. K.faults link.new ≡ K.faults link.old) (λ e. CountsFault (K.faults link.old) (K.faults link.new) e) }
+    ensures count { CountsErrors K.Link link.old link.new result }
 {
     match exchange(alloc, link, incoming, request) {
-        Ok((status, body)) => reply_number(alloc, table, code, incoming.used(), status, &body),
+        Ok((status, body)) => reply_number(
+            alloc,
+            table,
+            code,
+            incoming.used_count(),
+            status,
+            &body,
+        ),
         Err(error) => Err(error),
     }
 }
@@ -72,7 +83,8 @@ fn reply_tag(
     status: u16,
     body: &Bytes,
 ) -> Result<Tag, FollowError>
-    ensures { MatchResult result (λ tag. Tells table.now (status, body.now) tag) (λ e. UnexpectedTag table.now used (status, body.now) e) }
+    ensures { MatchResult result (λ tag. Tells table.now (status, body.now) tag)
+        (λ e. UnexpectedTag table.now used (status, body.now) e) }
 {
     if status != 200 {
         return Err(FollowError::Refused { status });
@@ -93,7 +105,8 @@ pub(crate) fn reply_number(
     status: u16,
     body: &Bytes,
 ) -> Result<u32, FollowError>
-    ensures { MatchResult result (λ n. TellsNumber code table.now (status, body.now) n) (λ e. UnexpectedNumber code table.now used (status, body.now) e) }
+    ensures { MatchResult result (λ n. TellsNumber code table.now (status, body.now) n)
+        (λ e. UnexpectedNumber code table.now used (status, body.now) e) }
 {
     match reply_tag(alloc, table, used, status, body) {
         Ok(tag) => match number_in(code, &tag) {
@@ -106,11 +119,12 @@ pub(crate) fn reply_number(
 
 // Returns the tag that the body is, if it is exactly one.
 fn whole_tag(alloc: Global, table: &CodeTable, body: &Bytes) -> Result<Option<Tag>, AllocError>
-    ensures { IfOk result (λ found. MatchOption found (HasNoTag table.now body.now) (λ tag. IsTag table.now body.now tag)) }
+    ensures { IfOk result (λ found.
+        MatchOption found (HasNoTag table.now body.now) (λ tag. IsTag table.now body.now tag)) }
 {
     let bytes = body.as_slice();
     match read_tag(alloc, bytes, table, Limits { top: BODY_LIMIT }) {
-        Ok((tag, len)) => Ok(alone(tag, len, bytes.len())),
+        Ok((tag, len)) => Ok(sole_tag(tag, len, bytes.len())),
         Err(error) => {
             if is_memory(&error) {
                 Err(AllocError)
@@ -122,7 +136,7 @@ fn whole_tag(alloc: Global, table: &CodeTable, body: &Bytes) -> Result<Option<Ta
 }
 
 // Returns the tag if it takes all of the bytes.
-fn alone(tag: Tag, len: usize, total: usize) -> Option<Tag>
+fn sole_tag(tag: Tag, len: usize, total: usize) -> Option<Tag>
     ensures { MatchOption result (len ≢ total) (λ t. (t ≡ tag) × (len ≡ total)) }
 {
     if len == total { Some(tag) } else { None }

@@ -1,6 +1,6 @@
 //! A client after the login: the steps of following a share.
 
-ghost use Rattle.std.specs.Prelude.{◌≡◌, ◌≤◌, ◌<◌, ◌+◌, ◌*◌, ◌^◌, ℕ, [], ◌∷◌, Ok, IfOk, IfErr, OnErr, MatchResult};
+ghost use Rattle.std.specs.Prelude.{◌≡◌, ◌≤◌, ◌<◌, ◌+◌, ◌*◌, ◌^◌, [], ◌∷◌, Ok, IfOk, IfErr, OnErr, MatchResult};
 ghost use Rattle.dmap_tags.specs.Codes.{code};
 ghost use Rattle.share_asks.specs.Valid.{MayAsk};
 ghost use Rattle.share_asks.specs.declared.ask.Want.TheVariants as want;
@@ -10,9 +10,9 @@ ghost use Rattle.share_history.specs.Listings.{Listing};
 ghost use Rattle.http_client.specs.Replies.{Reply};
 ghost use Rattle.http_client.specs.Requests.{request_text};
 ghost use Rattle.mirror_client.specs.Exchanges.{Exchanged};
-ghost use Rattle.mirror_client.specs.Points.{Point, ReadAhead, nothing_read, place};
-ghost use Rattle.mirror_client.specs.Steps.{Opened, TellsListing, TellsTable, UnexpectedEnd, UnexpectedListing, UnexpectedTable, applied_by, rows_want, with_listings, FailsToOpen, IsNotTaken, IsUntold};
-ghost use Rattle.mirror_client.specs.Stopping.{CountsFault, Stops};
+ghost use Rattle.mirror_client.specs.Points.{ReadAhead, point_of, start_of};
+ghost use Rattle.mirror_client.specs.Steps.{Opened, TellsListing, TellsTable, UnexpectedEnd, UnexpectedListing, UnexpectedTable, applied_by, body_request, listing_request, logout_request, update_request, with_listings, FailsToOpen, IsNotTaken, IsNoTable};
+ghost use Rattle.mirror_client.specs.Stopping.{CountsErrors, Stops};
 ghost use Rattle.mirror_client.specs.Tellings.{Tells, TellsNumber, UnexpectedNumber, UnexpectedTag};
 
 use crate::asking::{request_for, rows_request};
@@ -21,10 +21,10 @@ use crate::fetching::{fetch, fetch_number};
 use crate::incoming::Incoming;
 use crate::refusal::FollowError;
 use code_table::{CodeError, CodeTable};
-use daap_outside::Link;
 use dmap_tags::{Code, Tag, Text};
 use item_model::{Look, Target};
 use mirror_core::{Applied, Mirror, MirrorError};
+use outside_net::Link;
 use share_asks::Want;
 use std::alloc::Global;
 use std::marker::Model;
@@ -67,10 +67,11 @@ impl Model for Follower {
 impl Follower {
     /// Requests the table of content codes, and logs in.
     pub fn open<K: Link>(alloc: Global, link: &mut K, host: &str) -> Result<Follower, FollowError>
-        ensures opened { IfOk result (λ f. Opened host.now (place (K.taken link.old) (K.left link.old) nothing_read) (place (K.taken link.new) (K.left link.new) f.ahead) f.known
-            × (f.host ≡ host.now) × (f.calls ≡ 0)) }
-        ensures stops { IfErr result (λ e. FailsToOpen host.now (place (K.taken link.old) (K.left link.old) nothing_read) (K.taken link.new) e) }
-        ensures count { MatchResult result (λ _. K.faults link.new ≡ K.faults link.old) (λ e. CountsFault (K.faults link.old) (K.faults link.new) e) }
+        ensures opened { IfOk result (λ f. Opened host.now (start_of K.Link link.old)
+            (point_of K.Link link.new f.ahead) f.known × (f.host ≡ host.now) × (f.calls ≡ 0)) }
+        ensures stops { IfErr result (λ e.
+            FailsToOpen host.now (start_of K.Link link.old) (K.taken link.new) e) }
+        ensures count { CountsErrors K.Link link.old link.new result }
     {
         let name = Text::of(alloc, host)?;
         let mut incoming = Incoming::new(alloc);
@@ -103,14 +104,19 @@ impl Follower {
         requires few { self.old.calls < 65536 }
         requires asks { MayAsk mirror.old.query }
         ensures exchanged { IfOk result (λ applied. (answer : Reply) × (l : Listing)
-            × Exchanged (request_text (rows_want self.old.known.session mirror.old) self.old.host) (place (K.taken link.old) (K.left link.old) self.old.ahead) (place (K.taken link.new) (K.left link.new) self.new.ahead) answer
-            × TellsListing self.old.known.rows mirror.old answer l × (mirror.new ≡ with_listings mirror.old (l ∷ [])) × (applied ≡ applied_by mirror.old.held l)) }
-        ensures stops { IfErr result (λ e. Stops (request_text (rows_want self.old.known.session mirror.old) self.old.host) (UnexpectedListing self.old.known.rows mirror.old)
-            (place (K.taken link.old) (K.left link.old) self.old.ahead) (K.taken link.new) e) }
+            × Exchanged (listing_request self.old mirror.old)
+            (point_of K.Link link.old self.old.ahead)
+            (point_of K.Link link.new self.new.ahead) answer
+            × TellsListing self.old.known.rows mirror.old answer l
+            × (mirror.new ≡ with_listings mirror.old (l ∷ []))
+            × (applied ≡ applied_by mirror.old.held l)) }
+        ensures stops { IfErr result (λ e. Stops (listing_request self.old mirror.old)
+            (UnexpectedListing self.old.known.rows mirror.old)
+            (point_of K.Link link.old self.old.ahead) (K.taken link.new) e) }
         ensures unchanged { OnErr result (mirror.new ≡ mirror.old) }
         ensures stays { (self.new.host ≡ self.old.host) × (self.new.known ≡ self.old.known) }
         ensures calls { self.new.calls ≡ self.old.calls + 1 }
-        ensures count { MatchResult result (λ _. K.faults link.new ≡ K.faults link.old) (λ e. CountsFault (K.faults link.old) (K.faults link.new) e) }
+        ensures count { CountsErrors K.Link link.old link.new result }
     {
         self.calls += 1;
         let request = rows_request(self.alloc, self.session, mirror, self.host.as_str())?;
@@ -141,13 +147,16 @@ impl Follower {
         requires few { self.old.calls < 65536 }
         requires asks { MayAsk look.query }
         ensures exchanged { IfOk result (λ tag. (answer : Reply)
-            × Exchanged (request_text (want.Rows self.old.known.session target look) self.old.host) (place (K.taken link.old) (K.left link.old) self.old.ahead) (place (K.taken link.new) (K.left link.new) self.new.ahead) answer
+            × Exchanged (body_request self.old target look)
+            (point_of K.Link link.old self.old.ahead)
+            (point_of K.Link link.new self.new.ahead) answer
             × Tells self.old.known.rows answer tag) }
-        ensures stops { IfErr result (λ e. Stops (request_text (want.Rows self.old.known.session target look) self.old.host) (UnexpectedTag self.old.known.rows)
-            (place (K.taken link.old) (K.left link.old) self.old.ahead) (K.taken link.new) e) }
+        ensures stops { IfErr result (λ e. Stops (body_request self.old target look)
+            (UnexpectedTag self.old.known.rows)
+            (point_of K.Link link.old self.old.ahead) (K.taken link.new) e) }
         ensures stays { (self.new.host ≡ self.old.host) × (self.new.known ≡ self.old.known) }
         ensures calls { self.new.calls ≡ self.old.calls + 1 }
-        ensures count { MatchResult result (λ _. K.faults link.new ≡ K.faults link.old) (λ e. CountsFault (K.faults link.old) (K.faults link.new) e) }
+        ensures count { CountsErrors K.Link link.old link.new result }
     {
         self.calls += 1;
         let want = Want::Rows {
@@ -170,13 +179,16 @@ impl Follower {
     pub fn wait<K: Link>(&mut self, link: &mut K, revision: u32) -> Result<u32, FollowError>
         requires few { self.old.calls < 65536 }
         ensures exchanged { IfOk result (λ told. (answer : Reply)
-            × Exchanged (request_text (want.Update self.old.known.session revision) self.old.host) (place (K.taken link.old) (K.left link.old) self.old.ahead) (place (K.taken link.new) (K.left link.new) self.new.ahead) answer
+            × Exchanged (update_request self.old revision)
+            (point_of K.Link link.old self.old.ahead)
+            (point_of K.Link link.new self.new.ahead) answer
             × TellsNumber (code "musr") self.old.known.rows answer told) }
-        ensures stops { IfErr result (λ e. Stops (request_text (want.Update self.old.known.session revision) self.old.host) (UnexpectedNumber (code "musr") self.old.known.rows)
-            (place (K.taken link.old) (K.left link.old) self.old.ahead) (K.taken link.new) e) }
+        ensures stops { IfErr result (λ e. Stops (update_request self.old revision)
+            (UnexpectedNumber (code "musr") self.old.known.rows)
+            (point_of K.Link link.old self.old.ahead) (K.taken link.new) e) }
         ensures stays { (self.new.host ≡ self.old.host) × (self.new.known ≡ self.old.known) }
         ensures calls { self.new.calls ≡ self.old.calls + 1 }
-        ensures count { MatchResult result (λ _. K.faults link.new ≡ K.faults link.old) (λ e. CountsFault (K.faults link.old) (K.faults link.new) e) }
+        ensures count { CountsErrors K.Link link.old link.new result }
     {
         self.calls += 1;
         let want = Want::Update {
@@ -197,11 +209,12 @@ impl Follower {
     /// Logs out.
     pub fn close<K: Link>(self, link: &mut K) -> Result<(), FollowError>
         ensures exchanged { IfOk result (λ _. (answer : Reply) × (ahead : ReadAhead)
-            × Exchanged (request_text (want.Logout self.known.session) self.host) (place (K.taken link.old) (K.left link.old) self.ahead) (place (K.taken link.new) (K.left link.new) ahead) answer
+            × Exchanged (logout_request self)
+            (point_of K.Link link.old self.ahead) (point_of K.Link link.new ahead) answer
             × (answer.0 ≡ 204)) }
-        ensures stops { IfErr result (λ e. Stops (request_text (want.Logout self.known.session) self.host) UnexpectedEnd
-            (place (K.taken link.old) (K.left link.old) self.ahead) (K.taken link.new) e) }
-        ensures count { MatchResult result (λ _. K.faults link.new ≡ K.faults link.old) (λ e. CountsFault (K.faults link.old) (K.faults link.new) e) }
+        ensures stops { IfErr result (λ e. Stops (logout_request self) UnexpectedEnd
+            (point_of K.Link link.old self.ahead) (K.taken link.new) e) }
+        ensures count { CountsErrors K.Link link.old link.new result }
     {
         let Follower {
             alloc,
@@ -225,23 +238,25 @@ fn learn_table<K: Link>(
 ) -> Result<CodeTable, FollowError>
     requires few { incoming.old.used < 2 ^ 63 }
     ensures exchanged { IfOk result (λ table. (answer : Reply)
-        × Exchanged (request_text want.Codes host.now) (place (K.taken link.old) (K.left link.old) incoming.old) (place (K.taken link.new) (K.left link.new) incoming.new) answer
+        × Exchanged (request_text want.Codes host.now)
+        (point_of K.Link link.old incoming.old) (point_of K.Link link.new incoming.new) answer
         × TellsTable answer table) }
-    ensures stops { IfErr result (λ e. Stops (request_text want.Codes host.now) UnexpectedTable (place (K.taken link.old) (K.left link.old) incoming.old) (K.taken link.new) e) }
+    ensures stops { IfErr result (λ e. Stops (request_text want.Codes host.now) UnexpectedTable
+        (point_of K.Link link.old incoming.old) (K.taken link.new) e) }
     ensures grows { incoming.new.used ≤ incoming.old.used + 2 ^ 31 }
-    ensures count { MatchResult result (λ _. K.faults link.new ≡ K.faults link.old) (λ e. CountsFault (K.faults link.old) (K.faults link.new) e) }
+    ensures count { CountsErrors K.Link link.old link.new result }
 {
     let request = request_for(alloc, Want::Codes, host)?;
     let table = CodeTable::standard(alloc)?;
     match fetch(alloc, link, incoming, &table, request.as_slice()) {
-        Ok(tag) => told_table(alloc, &tag),
+        Ok(tag) => table_from(alloc, &tag),
         Err(error) => Err(error),
     }
 }
 
 // Returns the table that a tag encodes.
-fn told_table(alloc: Global, tag: &Tag) -> Result<CodeTable, FollowError>
-    ensures { MatchResult result (λ table. table_of tag.now ≡ Ok table) (λ e. IsUntold tag.now e) }
+fn table_from(alloc: Global, tag: &Tag) -> Result<CodeTable, FollowError>
+    ensures { MatchResult result (λ table. table_of tag.now ≡ Ok table) (λ e. IsNoTable tag.now e) }
 {
     match CodeTable::from_reply(alloc, tag) {
         Ok(table) => Ok(table),
@@ -265,11 +280,14 @@ fn log_in<K: Link>(
 ) -> Result<u32, FollowError>
     requires few { incoming.old.used < 2 ^ 63 }
     ensures exchanged { IfOk result (λ session. (answer : Reply)
-        × Exchanged (request_text want.Login host.now) (place (K.taken link.old) (K.left link.old) incoming.old) (place (K.taken link.new) (K.left link.new) incoming.new) answer
+        × Exchanged (request_text want.Login host.now)
+        (point_of K.Link link.old incoming.old) (point_of K.Link link.new incoming.new) answer
         × TellsNumber (code "mlid") table.now answer session) }
-    ensures stops { IfErr result (λ e. Stops (request_text want.Login host.now) (UnexpectedNumber (code "mlid") table.now) (place (K.taken link.old) (K.left link.old) incoming.old) (K.taken link.new) e) }
+    ensures stops { IfErr result (λ e. Stops (request_text want.Login host.now)
+        (UnexpectedNumber (code "mlid") table.now)
+        (point_of K.Link link.old incoming.old) (K.taken link.new) e) }
     ensures grows { incoming.new.used ≤ incoming.old.used + 2 ^ 31 }
-    ensures count { MatchResult result (λ _. K.faults link.new ≡ K.faults link.old) (λ e. CountsFault (K.faults link.old) (K.faults link.new) e) }
+    ensures count { CountsErrors K.Link link.old link.new result }
 {
     let request = request_for(alloc, Want::Login, host)?;
     fetch_number(
@@ -293,12 +311,16 @@ fn fetch_listing<K: Link>(
 ) -> Result<Applied, FollowError>
     requires few { incoming.old.used < 2 ^ 63 }
     ensures exchanged { IfOk result (λ applied. (answer : Reply) × (l : Listing)
-        × Exchanged request.now (place (K.taken link.old) (K.left link.old) incoming.old) (place (K.taken link.new) (K.left link.new) incoming.new) answer
-        × TellsListing table.now mirror.old answer l × (mirror.new ≡ with_listings mirror.old (l ∷ [])) × (applied ≡ applied_by mirror.old.held l)) }
-    ensures stops { IfErr result (λ e. Stops request.now (UnexpectedListing table.now mirror.old) (place (K.taken link.old) (K.left link.old) incoming.old) (K.taken link.new) e) }
+        × Exchanged request.now
+        (point_of K.Link link.old incoming.old) (point_of K.Link link.new incoming.new) answer
+        × TellsListing table.now mirror.old answer l
+        × (mirror.new ≡ with_listings mirror.old (l ∷ []))
+        × (applied ≡ applied_by mirror.old.held l)) }
+    ensures stops { IfErr result (λ e. Stops request.now (UnexpectedListing table.now mirror.old)
+        (point_of K.Link link.old incoming.old) (K.taken link.new) e) }
     ensures unchanged { OnErr result (mirror.new ≡ mirror.old) }
     ensures grows { incoming.new.used ≤ incoming.old.used + 2 ^ 31 }
-    ensures count { MatchResult result (λ _. K.faults link.new ≡ K.faults link.old) (λ e. CountsFault (K.faults link.old) (K.faults link.new) e) }
+    ensures count { CountsErrors K.Link link.old link.new result }
 {
     match fetch(alloc, link, incoming, table, request) {
         Ok(tag) => apply(mirror, &tag),
@@ -308,8 +330,11 @@ fn fetch_listing<K: Link>(
 
 // Applies a listing to the mirror.
 fn apply(mirror: &mut Mirror, tag: &Tag) -> Result<Applied, FollowError>
-    ensures taken { IfOk result (λ applied. (l : Listing) × IsListing mirror.old.target mirror.old.held.revision l tag.now × (mirror.old.held.revision ≤ l.revision)
-        × (mirror.new ≡ with_listings mirror.old (l ∷ [])) × (applied ≡ applied_by mirror.old.held l)) }
+    ensures taken { IfOk result (λ applied. (l : Listing)
+        × IsListing mirror.old.target mirror.old.held.revision l tag.now
+        × (mirror.old.held.revision ≤ l.revision)
+        × (mirror.new ≡ with_listings mirror.old (l ∷ []))
+        × (applied ≡ applied_by mirror.old.held l)) }
     ensures refused { IfErr result (λ e. IsNotTaken mirror.old tag.now e) }
     ensures unchanged { OnErr result (mirror.new ≡ mirror.old) }
 {
@@ -336,10 +361,12 @@ fn log_out<K: Link>(
 ) -> Result<(), FollowError>
     requires few { incoming.old.used < 2 ^ 63 }
     ensures exchanged { IfOk result (λ _. (answer : Reply)
-        × Exchanged (request_text (want.Logout session) host.now) (place (K.taken link.old) (K.left link.old) incoming.old) (place (K.taken link.new) (K.left link.new) incoming.new) answer
+        × Exchanged (request_text (want.Logout session) host.now)
+        (point_of K.Link link.old incoming.old) (point_of K.Link link.new incoming.new) answer
         × (answer.0 ≡ 204)) }
-    ensures stops { IfErr result (λ e. Stops (request_text (want.Logout session) host.now) UnexpectedEnd (place (K.taken link.old) (K.left link.old) incoming.old) (K.taken link.new) e) }
-    ensures count { MatchResult result (λ _. K.faults link.new ≡ K.faults link.old) (λ e. CountsFault (K.faults link.old) (K.faults link.new) e) }
+    ensures stops { IfErr result (λ e. Stops (request_text (want.Logout session) host.now)
+        UnexpectedEnd (point_of K.Link link.old incoming.old) (K.taken link.new) e) }
+    ensures count { CountsErrors K.Link link.old link.new result }
 {
     let request = request_for(alloc, Want::Logout { session }, host)?;
     exchange_end(alloc, link, incoming, request.as_slice())
@@ -354,10 +381,12 @@ fn exchange_end<K: Link>(
 ) -> Result<(), FollowError>
     requires few { incoming.old.used < 2 ^ 63 }
     ensures exchanged { IfOk result (λ _. (answer : Reply)
-        × Exchanged request.now (place (K.taken link.old) (K.left link.old) incoming.old) (place (K.taken link.new) (K.left link.new) incoming.new) answer
+        × Exchanged request.now
+        (point_of K.Link link.old incoming.old) (point_of K.Link link.new incoming.new) answer
         × (answer.0 ≡ 204)) }
-    ensures stops { IfErr result (λ e. Stops request.now UnexpectedEnd (place (K.taken link.old) (K.left link.old) incoming.old) (K.taken link.new) e) }
-    ensures count { MatchResult result (λ _. K.faults link.new ≡ K.faults link.old) (λ e. CountsFault (K.faults link.old) (K.faults link.new) e) }
+    ensures stops { IfErr result (λ e. Stops request.now UnexpectedEnd
+        (point_of K.Link link.old incoming.old) (K.taken link.new) e) }
+    ensures count { CountsErrors K.Link link.old link.new result }
 {
     match exchange(alloc, link, incoming, request) {
         Ok((204, _)) => Ok(()),

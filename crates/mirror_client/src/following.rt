@@ -1,19 +1,19 @@
 //! Follows a listing for a number of rounds.
 
-ghost use Rattle.std.specs.Prelude.{◌≡◌, ◌≤◌, ◌<◌, ◌+◌, ℕ, List, [], ◌∷◌, ◌++◌, length, false, ◌==◌, IfErr, OnOk, IfOk, MatchResult};
+ghost use Rattle.std.specs.Prelude.{◌≡◌, ◌≤◌, ◌<◌, ◌+◌, ℕ, List, [], ◌∷◌, ◌++◌, length, false, ◌==◌, IfErr, OnOk, IfOk};
 ghost use Rattle.share_asks.specs.Valid.{MayAsk};
 ghost use Rattle.share_history.specs.Listings.{Listing};
 ghost use Rattle.mirror_core.specs.Mirrored.{Mirrored};
-ghost use Rattle.mirror_client.specs.Points.{nothing_read, place};
-ghost use Rattle.mirror_client.specs.Runs.{Followed};
-ghost use Rattle.mirror_client.specs.Stages.{Asking, Begun, Holding, StopsFrom, Walks};
+ghost use Rattle.mirror_client.specs.Points.{point_of};
+ghost use Rattle.mirror_client.specs.Runs.{BreaksRun, CompletesRun, StopsRun, WalksRun, follow_run};
+ghost use Rattle.mirror_client.specs.Stages.{Asking, Holding};
 ghost use Rattle.mirror_client.specs.Steps.{all_applied, with_listings};
-ghost use Rattle.mirror_client.specs.Stopping.{CountsFault};
+ghost use Rattle.mirror_client.specs.Stopping.{CountsErrors};
 
 use crate::follower::Follower;
 use crate::refusal::FollowError;
-use daap_outside::Link;
 use mirror_core::{Applied, Mirror};
+use outside_net::Link;
 use std::alloc::Global;
 
 /// Follows the mirror's listing for 1 to 16,384 rounds, and returns what each of them did.
@@ -31,9 +31,11 @@ pub fn follow_link<K: Link>(
     requires some { 1 ≤ rounds }
     requires few { rounds ≤ 16384 }
     requires asks { MayAsk mirror.old.query }
-    ensures followed { IfOk result (λ applied. Followed host.now mirror.old rounds (place (K.taken link.old) (K.left link.old) nothing_read) (K.taken link.new) applied.items mirror.new) }
-    ensures stops { IfErr result (λ e. StopsFrom host.now mirror.old rounds Begun (place (K.taken link.old) (K.left link.old) nothing_read) (K.taken link.new) e mirror.new) }
-    ensures count { MatchResult result (λ _. K.faults link.new ≡ K.faults link.old) (λ e. CountsFault (K.faults link.old) (K.faults link.new) e) }
+    ensures followed { IfOk result (λ applied. CompletesRun K.Link
+        (follow_run host.now mirror.old rounds) link.old link.new applied.items mirror.new) }
+    ensures stops { IfErr result (λ e. BreaksRun K.Link
+        (follow_run host.now mirror.old rounds) link.old link.new e mirror.new) }
+    ensures count { CountsErrors K.Link link.old link.new result }
 {
     let mut applied = Vec::new(alloc);
     match follow_into(alloc, link, host, mirror, rounds, &mut applied) {
@@ -55,9 +57,11 @@ fn follow_into<K: Link>(
     requires few { rounds ≤ 16384 }
     requires asks { MayAsk mirror.old.query }
     requires none { applied.old.items ≡ [] }
-    ensures followed { OnOk result (Followed host.now mirror.old rounds (place (K.taken link.old) (K.left link.old) nothing_read) (K.taken link.new) applied.new.items mirror.new) }
-    ensures stops { IfErr result (λ e. StopsFrom host.now mirror.old rounds Begun (place (K.taken link.old) (K.left link.old) nothing_read) (K.taken link.new) e mirror.new) }
-    ensures count { MatchResult result (λ _. K.faults link.new ≡ K.faults link.old) (λ e. CountsFault (K.faults link.old) (K.faults link.new) e) }
+    ensures followed { OnOk result (CompletesRun K.Link
+        (follow_run host.now mirror.old rounds) link.old link.new applied.new.items mirror.new) }
+    ensures stops { IfErr result (λ e. BreaksRun K.Link
+        (follow_run host.now mirror.old rounds) link.old link.new e mirror.new) }
+    ensures count { CountsErrors K.Link link.old link.new result }
 {
     let mut follower = match Follower::open(alloc, link, host) {
         Ok(follower) => follower,
@@ -82,14 +86,19 @@ fn follow_rounds<K: Link>(
     requires uncalled { follower.old.calls ≡ 0 }
     requires asks { MayAsk mirror.old.query }
     requires none { applied.old.items ≡ [] }
-    ensures walks { OnOk result ((ls : List Listing) × (length ls ≡ rounds) × (mirror.new ≡ with_listings mirror.old ls) × (applied.new.items ≡ all_applied mirror.old.held ls)
-        × Walks follower.old.host mirror.old rounds (Asking follower.old.known []) (place (K.taken link.old) (K.left link.old) follower.old.ahead)
-        (Holding follower.new.known ls) (place (K.taken link.new) (K.left link.new) follower.new.ahead)) }
-    ensures stops { IfErr result (λ e. StopsFrom follower.old.host mirror.old rounds (Asking follower.old.known []) (place (K.taken link.old) (K.left link.old) follower.old.ahead) (K.taken link.new) e mirror.new) }
+    ensures walks { OnOk result ((ls : List Listing) × (length ls ≡ rounds)
+        × (mirror.new ≡ with_listings mirror.old ls)
+        × (applied.new.items ≡ all_applied mirror.old.held ls)
+        × WalksRun (follow_run follower.old.host mirror.old rounds)
+        (Asking follower.old.known []) (point_of K.Link link.old follower.old.ahead)
+        (Holding follower.new.known ls) (point_of K.Link link.new follower.new.ahead)) }
+    ensures stops { IfErr result (λ e. StopsRun (follow_run follower.old.host mirror.old rounds)
+        (Asking follower.old.known []) (point_of K.Link link.old follower.old.ahead)
+        (K.taken link.new) e mirror.new) }
     ensures stays { follower.new.host ≡ follower.old.host }
-    ensures count { MatchResult result (λ _. K.faults link.new ≡ K.faults link.old) (λ e. CountsFault (K.faults link.old) (K.faults link.new) e) }
+    ensures count { CountsErrors K.Link link.old link.new result }
 {
-    match listed(follower, link, mirror, applied) {
+    match fetch_next(follower, link, mirror, applied) {
         Ok(()) => {}
         Err(error) => return Err(error),
     }
@@ -103,7 +112,7 @@ fn follow_rounds<K: Link>(
 }
 
 // Fetches one more listing. `m` is the mirror at the start.
-fn listed<K: Link>(
+fn fetch_next<K: Link>(
     follower: &mut Follower,
     link: &mut K,
     mirror: &mut Mirror,
@@ -111,16 +120,23 @@ fn listed<K: Link>(
 ) -> Result<(), FollowError>
     requires few { follower.old.calls < 65536 }
     requires asks { MayAsk mirror.old.query }
-    ensures walks { OnOk result ((m : Mirrored) (rounds : ℕ) (ls : List Listing) → mirror.old ≡ with_listings m ls → applied.old.items ≡ all_applied m.held ls
-        → (l : Listing) × (mirror.new ≡ with_listings m (ls ++ l ∷ [])) × (applied.new.items ≡ all_applied m.held (ls ++ l ∷ []))
-        × Walks follower.old.host m rounds (Asking follower.old.known ls) (place (K.taken link.old) (K.left link.old) follower.old.ahead)
-        (Holding follower.old.known (ls ++ l ∷ [])) (place (K.taken link.new) (K.left link.new) follower.new.ahead)) }
-    ensures stops { IfErr result (λ e. (m : Mirrored) (rounds : ℕ) (ls : List Listing) → mirror.old ≡ with_listings m ls
-        → StopsFrom follower.old.host m rounds (Asking follower.old.known ls) (place (K.taken link.old) (K.left link.old) follower.old.ahead) (K.taken link.new) e mirror.new) }
-    ensures stays { (follower.new.host ≡ follower.old.host) × (follower.new.known ≡ follower.old.known) }
+    ensures walks { OnOk result ((m : Mirrored) (rounds : ℕ) (ls : List Listing)
+        → mirror.old ≡ with_listings m ls → applied.old.items ≡ all_applied m.held ls
+        → (l : Listing) × (mirror.new ≡ with_listings m (ls ++ l ∷ []))
+        × (applied.new.items ≡ all_applied m.held (ls ++ l ∷ []))
+        × WalksRun (follow_run follower.old.host m rounds)
+        (Asking follower.old.known ls) (point_of K.Link link.old follower.old.ahead)
+        (Holding follower.old.known (ls ++ l ∷ [])) (point_of K.Link link.new follower.new.ahead)) }
+    ensures stops { IfErr result (λ e. (m : Mirrored) (rounds : ℕ) (ls : List Listing)
+        → mirror.old ≡ with_listings m ls
+        → StopsRun (follow_run follower.old.host m rounds)
+        (Asking follower.old.known ls) (point_of K.Link link.old follower.old.ahead)
+        (K.taken link.new) e mirror.new) }
+    ensures stays { (follower.new.host ≡ follower.old.host)
+        × (follower.new.known ≡ follower.old.known) }
     ensures calls { follower.new.calls ≡ follower.old.calls + 1 }
     ensures query { mirror.new.query ≡ mirror.old.query }
-    ensures count { MatchResult result (λ _. K.faults link.new ≡ K.faults link.old) (λ e. CountsFault (K.faults link.old) (K.faults link.new) e) }
+    ensures count { CountsErrors K.Link link.old link.new result }
 {
     match follower.listing(link, mirror) {
         Ok(done) => match applied.push(done) {
@@ -140,20 +156,27 @@ fn next_round<K: Link>(
 ) -> Result<(), FollowError>
     requires few { follower.old.calls < 65535 }
     requires asks { MayAsk mirror.old.query }
-    ensures walks { OnOk result ((m : Mirrored) (rounds : ℕ) (ls : List Listing) → mirror.old ≡ with_listings m ls → applied.old.items ≡ all_applied m.held ls
+    ensures walks { OnOk result ((m : Mirrored) (rounds : ℕ) (ls : List Listing)
+        → mirror.old ≡ with_listings m ls → applied.old.items ≡ all_applied m.held ls
         → (length ls == rounds) ≡ false
-        → (l : Listing) × (mirror.new ≡ with_listings m (ls ++ l ∷ [])) × (applied.new.items ≡ all_applied m.held (ls ++ l ∷ []))
-        × Walks follower.old.host m rounds (Holding follower.old.known ls) (place (K.taken link.old) (K.left link.old) follower.old.ahead)
-        (Holding follower.old.known (ls ++ l ∷ [])) (place (K.taken link.new) (K.left link.new) follower.new.ahead)) }
-    ensures stops { IfErr result (λ e. (m : Mirrored) (rounds : ℕ) (ls : List Listing) → mirror.old ≡ with_listings m ls → (length ls == rounds) ≡ false
-        → StopsFrom follower.old.host m rounds (Holding follower.old.known ls) (place (K.taken link.old) (K.left link.old) follower.old.ahead) (K.taken link.new) e mirror.new) }
-    ensures stays { (follower.new.host ≡ follower.old.host) × (follower.new.known ≡ follower.old.known) }
+        → (l : Listing) × (mirror.new ≡ with_listings m (ls ++ l ∷ []))
+        × (applied.new.items ≡ all_applied m.held (ls ++ l ∷ []))
+        × WalksRun (follow_run follower.old.host m rounds)
+        (Holding follower.old.known ls) (point_of K.Link link.old follower.old.ahead)
+        (Holding follower.old.known (ls ++ l ∷ [])) (point_of K.Link link.new follower.new.ahead)) }
+    ensures stops { IfErr result (λ e. (m : Mirrored) (rounds : ℕ) (ls : List Listing)
+        → mirror.old ≡ with_listings m ls → (length ls == rounds) ≡ false
+        → StopsRun (follow_run follower.old.host m rounds)
+        (Holding follower.old.known ls) (point_of K.Link link.old follower.old.ahead)
+        (K.taken link.new) e mirror.new) }
+    ensures stays { (follower.new.host ≡ follower.old.host)
+        × (follower.new.known ≡ follower.old.known) }
     ensures calls { follower.new.calls ≤ follower.old.calls + 2 }
     ensures query { mirror.new.query ≡ mirror.old.query }
-    ensures count { MatchResult result (λ _. K.faults link.new ≡ K.faults link.old) (λ e. CountsFault (K.faults link.old) (K.faults link.new) e) }
+    ensures count { CountsErrors K.Link link.old link.new result }
 {
     match follower.wait(link, mirror.base()) {
-        Ok(_) => listed(follower, link, mirror, applied),
+        Ok(_) => fetch_next(follower, link, mirror, applied),
         Err(error) => Err(error),
     }
 }

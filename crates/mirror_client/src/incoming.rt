@@ -6,7 +6,7 @@ ghost use Rattle.mirror_client.specs.Points.{Point};
 ghost use Rattle.mirror_client.specs.Stopping.{CountsFault, NoReply};
 
 use crate::refusal::FollowError;
-use daap_outside::{Failed, Source};
+use outside_net::{Failed, Source};
 use std::alloc::Global;
 use std::marker::Model;
 
@@ -52,7 +52,7 @@ impl Incoming {
         }
     }
 
-    pub(crate) fn unused(&self) -> &[u8]
+    pub(crate) fn unused_bytes(&self) -> &[u8]
         ensures bytes { result.now ≡ self.now.unused }
         ensures few { length result.now ≤ 8192 }
     {
@@ -60,7 +60,7 @@ impl Incoming {
         unused
     }
 
-    pub(crate) fn used(&self) -> u64
+    pub(crate) fn used_count(&self) -> u64
         ensures { result ≡ self.now.used }
     {
         self.used
@@ -84,15 +84,18 @@ impl Incoming {
 
     /// Reads more bytes if none is unused. Returns whether there are any then.
     pub(crate) fn refill<I: Source>(&mut self, source: &mut I) -> Result<bool, FollowError>
-        ensures read { IfOk result (λ _. (owed : Option (List ℕ)) (kept : List ℕ) → Consumes owed (prepend_known self.old.unused (I.left source.old)) kept
+        ensures read { IfOk result (λ _. (owed : Option (List ℕ)) (kept : List ℕ)
+            → Consumes owed (prepend_known self.old.unused (I.left source.old)) kept
             → Consumes owed (prepend_known self.new.unused (I.left source.new)) kept) }
-        ensures some { IfOk result (λ some. MatchBool some (self.new.unused ≢ []) ((self.new.unused ≡ []) × IsAtEnd (I.left source.new))) }
+        ensures some { IfOk result (λ some. MatchBool some (self.new.unused ≢ [])
+            ((self.new.unused ≡ []) × IsAtEnd (I.left source.new))) }
         ensures cause { IfErr result (λ e. (p : Point) → NoReply p e) }
         ensures used { self.new.used ≡ self.old.used }
         ensures beside { I.beside_left source.new ≡ I.beside_left source.old }
-        ensures count { MatchResult result (λ _. I.faults source.new ≡ I.faults source.old) (λ e. CountsFault (I.faults source.old) (I.faults source.new) e) }
+        ensures count { MatchResult result (λ _. I.faults source.new ≡ I.faults source.old)
+            (λ e. CountsFault (I.faults source.old) (I.faults source.new) e) }
     {
-        if !self.unused().is_empty() {
+        if !self.unused_bytes().is_empty() {
             return Ok(true);
         }
         let mut piece = [0; PIECE];

@@ -4,18 +4,18 @@ ghost use Rattle.std.specs.Prelude.{◌≡◌, Some, None, option_copied, IfOk, 
 ghost use Rattle.code_table.specs.Standard.{standard_rows};
 ghost use Rattle.http_client.specs.Replies.{Reply};
 ghost use Rattle.mirror_client.specs.Exchanges.{Exchanged};
-ghost use Rattle.mirror_client.specs.Points.{Point, nothing_read, place};
+ghost use Rattle.mirror_client.specs.Points.{Point, start_of};
 ghost use Rattle.mirror_client.specs.Pushes.{IsEdited, IsPushed, IsStopped, UnexpectedEdit, UnexpectedPush, push_text};
-ghost use Rattle.mirror_client.specs.Stopping.{CountsFault, Stops};
+ghost use Rattle.mirror_client.specs.Stopping.{CountsErrors, Stops};
 
 use crate::exchanging::exchange;
 use crate::fetching::reply_number;
 use crate::incoming::Incoming;
 use crate::refusal::FollowError;
 use code_table::CodeTable;
-use daap_outside::Link;
 use dmap_tags::{Bytes, Code};
 use http_client::post;
+use outside_net::Link;
 use std::alloc::Global;
 
 /// The outcome of an edit or a stop.
@@ -38,11 +38,13 @@ pub fn push_link<K: Link>(
     body: Option<&[u8]>,
 ) -> Result<Pushed, FollowError>
     ensures pushed { IfOk result (λ pushed. (answer : Reply) × (there : Point)
-        × Exchanged (push_text (option_copied body.entry) host.now) (place (K.taken link.old) (K.left link.old) nothing_read) there answer
+        × Exchanged (push_text (option_copied body.entry) host.now)
+        (start_of K.Link link.old) there answer
         × (there.taken ≡ K.taken link.new) × IsPushed (option_copied body.entry) answer pushed) }
-    ensures stops { IfErr result (λ e. Stops (push_text (option_copied body.entry) host.now) (UnexpectedPush (option_copied body.entry))
-        (place (K.taken link.old) (K.left link.old) nothing_read) (K.taken link.new) e) }
-    ensures count { MatchResult result (λ _. K.faults link.new ≡ K.faults link.old) (λ e. CountsFault (K.faults link.old) (K.faults link.new) e) }
+    ensures stops { IfErr result (λ e. Stops (push_text (option_copied body.entry) host.now)
+        (UnexpectedPush (option_copied body.entry))
+        (start_of K.Link link.old) (K.taken link.new) e) }
+    ensures count { CountsErrors K.Link link.old link.new result }
 {
     match body {
         Some(records) => push_edit(alloc, link, host, records),
@@ -58,17 +60,23 @@ fn push_edit<K: Link>(
     records: &[u8],
 ) -> Result<Pushed, FollowError>
     ensures pushed { IfOk result (λ pushed. (answer : Reply) × (there : Point)
-        × Exchanged (push_text (Some records.now) host.now) (place (K.taken link.old) (K.left link.old) nothing_read) there answer
+        × Exchanged (push_text (Some records.now) host.now) (start_of K.Link link.old) there answer
         × (there.taken ≡ K.taken link.new) × IsEdited answer pushed) }
     ensures stops { IfErr result (λ e. Stops (push_text (Some records.now) host.now) UnexpectedEdit
-        (place (K.taken link.old) (K.left link.old) nothing_read) (K.taken link.new) e) }
-    ensures count { MatchResult result (λ _. K.faults link.new ≡ K.faults link.old) (λ e. CountsFault (K.faults link.old) (K.faults link.new) e) }
+        (start_of K.Link link.old) (K.taken link.new) e) }
+    ensures count { CountsErrors K.Link link.old link.new result }
 {
     let request = post(alloc, "/edit", host, records)?;
     let table = CodeTable::standard(alloc)?;
     let mut incoming = Incoming::new(alloc);
     match exchange(alloc, link, &mut incoming, request.as_slice()) {
-        Ok((status, text)) => match edited(alloc, &table, incoming.used(), status, text) {
+        Ok((status, text)) => match edit_outcome(
+            alloc,
+            &table,
+            incoming.used_count(),
+            status,
+            text,
+        ) {
             Ok(pushed) => Ok(pushed),
             Err(error) => Err(error),
         },
@@ -79,22 +87,22 @@ fn push_edit<K: Link>(
 #[tactic(auto, using(crate::proofs::ExchangeFacts::unwritten), unfolding(crate::specs::Pushes::push_text))]
 fn push_stop<K: Link>(alloc: Global, link: &mut K, host: &str) -> Result<Pushed, FollowError>
     ensures pushed { IfOk result (λ pushed. (answer : Reply) × (there : Point)
-        × Exchanged (push_text None host.now) (place (K.taken link.old) (K.left link.old) nothing_read) there answer
+        × Exchanged (push_text None host.now) (start_of K.Link link.old) there answer
         × (there.taken ≡ K.taken link.new) × IsStopped answer pushed) }
     ensures stops { IfErr result (λ e. Stops (push_text None host.now) (UnexpectedPush None)
-        (place (K.taken link.old) (K.left link.old) nothing_read) (K.taken link.new) e) }
-    ensures count { MatchResult result (λ _. K.faults link.new ≡ K.faults link.old) (λ e. CountsFault (K.faults link.old) (K.faults link.new) e) }
+        (start_of K.Link link.old) (K.taken link.new) e) }
+    ensures count { CountsErrors K.Link link.old link.new result }
 {
     let request = post(alloc, "/stop", host, b"")?;
     let mut incoming = Incoming::new(alloc);
     match exchange(alloc, link, &mut incoming, request.as_slice()) {
-        Ok((status, text)) => Ok(stopped(status, text)),
+        Ok((status, text)) => Ok(stop_outcome(status, text)),
         Err(error) => Err(error),
     }
 }
 
 // Returns the outcome of an edit by its answer, which ends at byte `used`.
-fn edited(
+fn edit_outcome(
     alloc: Global,
     table: &CodeTable,
     used: u64,
@@ -102,7 +110,8 @@ fn edited(
     text: Bytes,
 ) -> Result<Pushed, FollowError>
     requires { table.now ≡ standard_rows }
-    ensures { MatchResult result (λ pushed. IsEdited (status, text) pushed) (λ e. UnexpectedEdit used (status, text) e) }
+    ensures { MatchResult result (λ pushed. IsEdited (status, text) pushed)
+        (λ e. UnexpectedEdit used (status, text) e) }
 {
     match status {
         200 => pushed_revision(alloc, table, used, &text),
@@ -119,7 +128,8 @@ fn pushed_revision(
     text: &Bytes,
 ) -> Result<Pushed, FollowError>
     requires { table.now ≡ standard_rows }
-    ensures { MatchResult result (λ pushed. IsEdited (200, text.now) pushed) (λ e. UnexpectedEdit used (200, text.now) e) }
+    ensures { MatchResult result (λ pushed. IsEdited (200, text.now) pushed)
+        (λ e. UnexpectedEdit used (200, text.now) e) }
 {
     match reply_number(alloc, table, Code(*b"musr"), used, 200, text) {
         Ok(n) => Ok(Pushed::Revision(n)),
@@ -128,7 +138,7 @@ fn pushed_revision(
 }
 
 // Returns the outcome of a stop by its answer.
-fn stopped(status: u16, text: Bytes) -> Pushed
+fn stop_outcome(status: u16, text: Bytes) -> Pushed
     ensures { IsStopped (status, text) result }
 {
     match status {

@@ -1,16 +1,16 @@
 //! Reads one response off a connection.
 
-ghost use Rattle.std.specs.Prelude.{◌≡◌, ◌≢◌, ◌≤◌, ◌<◌, ◌+◌, ◌^◌, ◌++◌, ℕ, List, [], Option, IfOk, IfErr, OnErr, MatchResult};
+ghost use Rattle.std.specs.Prelude.{◌≡◌, ◌≢◌, ◌≤◌, ◌<◌, ◌+◌, ◌^◌, ◌++◌, ℕ, List, [], Option, IfOk, IfErr, OnErr};
 ghost use Rattle.mirror_client.specs.Exchanges.{Replied};
-ghost use Rattle.mirror_client.specs.Points.{point};
+ghost use Rattle.mirror_client.specs.Points.{point, point_of};
 ghost use Rattle.mirror_client.specs.Readers.{Advances, IsBegun, refused_by};
-ghost use Rattle.mirror_client.specs.Stopping.{CountsFault, NoReply};
+ghost use Rattle.mirror_client.specs.Stopping.{CountsErrors, CountsFault, NoReply};
 
 use crate::incoming::Incoming;
 use crate::refusal::FollowError;
-use daap_outside::Link;
 use dmap_tags::Bytes;
 use http_client::{ReplyError, ReplyReader};
+use outside_net::Link;
 use std::alloc::Global;
 
 /// Returns the status and body of the peer's next response.
@@ -20,12 +20,12 @@ pub(crate) fn next_reply<K: Link>(
     incoming: &mut Incoming,
 ) -> Result<(u16, Bytes), FollowError>
     requires few { incoming.old.used < 2 ^ 63 }
-    ensures replied { IfOk result (λ answer. Replied (point (K.taken link.old) (K.left link.old) incoming.old.unused incoming.old.used)
-        (point (K.taken link.new) (K.left link.new) incoming.new.unused incoming.new.used) answer) }
-    ensures cause { IfErr result (λ e. NoReply (point (K.taken link.old) (K.left link.old) incoming.old.unused incoming.old.used) e) }
+    ensures replied { IfOk result (λ answer. Replied (point_of K.Link link.old incoming.old)
+        (point_of K.Link link.new incoming.new) answer) }
+    ensures cause { IfErr result (λ e. NoReply (point_of K.Link link.old incoming.old) e) }
     ensures grows { incoming.new.used ≤ incoming.old.used + 2 ^ 31 }
     ensures taken { K.taken link.new ≡ K.taken link.old }
-    ensures count { MatchResult result (λ _. K.faults link.new ≡ K.faults link.old) (λ e. CountsFault (K.faults link.old) (K.faults link.new) e) }
+    ensures count { CountsErrors K.Link link.old link.new result }
 {
     let mut reader = ReplyReader::new(alloc);
     loop {
@@ -34,7 +34,7 @@ pub(crate) fn next_reply<K: Link>(
             Ok(true) => {}
             Ok(false) => {
                 return Err(FollowError::Ended {
-                    at: incoming.used() + held,
+                    at: incoming.used_count() + held,
                 });
             }
             Err(error) => return Err(error),
@@ -55,13 +55,15 @@ fn advance(
     requires begun { IsBegun reader.old }
     requires some { incoming.old.unused ≢ [] }
     requires few { incoming.old.used < 2 ^ 63 }
-    ensures advances { IfOk result (λ reply. Advances reader.old reader.new incoming.old incoming.new reply) }
-    ensures cause { IfErr result (λ e. (taken left : Option (List ℕ)) → NoReply (point taken left (reader.old.kept ++ incoming.old.unused) incoming.old.used) e) }
+    ensures advances { IfOk result (λ reply.
+        Advances reader.old reader.new incoming.old incoming.new reply) }
+    ensures cause { IfErr result (λ e. (taken left : Option (List ℕ))
+        → NoReply (point taken left (reader.old.kept ++ incoming.old.unused) incoming.old.used) e) }
     ensures used { OnErr result (incoming.new.used ≡ incoming.old.used) }
     ensures count { IfErr result (λ e. (faults : ℕ) → CountsFault faults faults e) }
 {
     let held = reader.held();
-    match reader.feed(incoming.unused()) {
+    match reader.feed(incoming.unused_bytes()) {
         Ok(n) => {
             incoming.skip(n);
             match reader.next() {
@@ -72,12 +74,12 @@ fn advance(
                 }
             }
         }
-        Err(error) => Err(refused(incoming.used(), error)),
+        Err(error) => Err(error_after(incoming.used_count(), error)),
     }
 }
 
 // Returns the error for a malformed response after `used` bytes.
-fn refused(used: u64, error: ReplyError) -> FollowError
+fn error_after(used: u64, error: ReplyError) -> FollowError
     requires { (at : ℕ) → error ≡ ReplyError.Bad at → used + at < 2 ^ 64 }
     ensures { result ≡ refused_by used error }
 {

@@ -7,3 +7,4 @@ pub mod Calls
 pub mod Times
 pub mod Closed
 pub mod Shelf
+pub mod Bounds

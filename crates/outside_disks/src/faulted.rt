@@ -6,7 +6,7 @@ use thiserror::Error;
 
 /// A call failed, and increased the error counter of its object.
 ///
-/// The cause is not reported: no caller acts on it.
+/// It does not say why. Where the system gave a reason, the object keeps it: `SystemFiles::cause` returns it.
 #[derive(Debug, Drop, Error)]
 #[error("a read or a write failed")]
 pub struct Failed;

@@ -7,10 +7,10 @@ ghost use Rattle.listing_plan.specs.Plans.{plan_bytes, IsWritable};
 ghost use Rattle.rehearsal.specs.Carried.{IsCarried};
 
 use code_table::CodeTable;
-use daap_outside::{MemSink, Sink};
 use dmap_stream::{Limits, StreamError, read_tag};
 use dmap_tags::Tag;
 use listing_plan::Plan;
+use outside_net::{MemSink, Sink};
 use std::alloc::{AllocError, Global};
 
 /// The most bytes of payload that a mirror reads of one tag.

@@ -1,13 +1,13 @@
 -- What a connection, a listener and workers leave of a network.
 use Rattle.std.proofs.Common.{◌≡◌, ◌≤◌, ◌<◌, ◌||◌, ℕ, ◌+◌, List, [], ◌∷◌, ◌++◌, map, length, take, Bool, true, false, MatchBool, Option, None, Some, Err, refl, sym, ap, ◌∙◌, subst, inl, inr, arith, append-nil, nat_lt, option_map}
 use Rattle.std.proofs.lemmas.List.{length-map, take-append-le, map-append}
-use Rattle.daap_outside.specs.Counts.{RisesWith, Rose}
-use Rattle.daap_outside.specs.NetCounts.{CountsNetFaults}
-use Rattle.daap_outside.specs.Places.{Returned, returned}
-use Rattle.daap_outside.specs.Told.{BeginsEmpty, Grows, GrowsByTold}
-use Rattle.daap_outside.specs.declared.net.NetError.{NetError}
-use Rattle.daap_outside.specs.declared.net.NetError.TheVariants as nets
-use Rattle.share_crew.specs.Doors.{HaveLinks}
+use Rattle.outside_net.specs.Counts.{RisesWith, Rose}
+use Rattle.outside_net.specs.NetCounts.{CountsNetFaults}
+use Rattle.outside_net.specs.Places.{Returned, returned}
+use Rattle.outside_net.specs.Told.{BeginsEmpty, Grows, GrowsByTold}
+use Rattle.outside_net.specs.declared.net.NetError.{NetError}
+use Rattle.outside_net.specs.declared.net.NetError.TheVariants as nets
+use Rattle.share_crew.specs.Listeners.{HaveLinks}
 use Rattle.share_crew.proofs.Nets.{grows_none, grows_then, grows_told, rose_then, stood_then}
 use Rattle.relay_command.specs.Faults.{net_fault}
 use Rattle.relay_command.specs.Places.{StopsOpening, unused}

@@ -11,7 +11,7 @@ use Rattle.share_server.specs.Passes.{Pass}
 use Rattle.share_crew.specs.Stints.{Stint, IsHistoryOf, IsPart, numbers_of_all, passes_in}
 use Rattle.share_crew.proofs.Numbers.{head_or_tail}
 use Rattle.share_crew.proofs.Players.{ArePlayers, IsNoPlayers, IsQuietIn, by_another_in, each_at_in, no_edits, players_lose_nothing, quiet_players_in}
-use Rattle.relay_share.proofs.LeftFacts.{relays_leave_steps, relays_show_what_they_read}
+use Rattle.relay_share.proofs.LeftFacts.{relays_leave_steps, relays_show_what_they_read, shares_make_steps}
 use Rattle.relay_command.specs.Laws.{RunsShowWhatTheyRead}
 
 -- each entry of the kind is of this number
@@ -58,8 +58,11 @@ module _ {settings : Settings} where
       (λ i d less is. by_relay kind (get_or one.later i d) crew relay is (each_at_in kind one.later i d crew less quiet) (one.made i d less)))
 
 pub runs_show_what_they_read : RunsShowWhatTheyRead
-runs_show_what_they_read relaying front net net' output output' left first middle rest r is =
+runs_show_what_they_read relaying front net net' output output' left r =
     let x = relays_leave_steps relaying.upstream relaying.rounds _ r.relay.link.taken _ r.relay.pass r.relay.report refl r.relayed in
-    let shown = relays_show_what_they_read relaying.upstream relaying.rounds _ r.relay.link.taken r.relay.pass r.history first middle rest x r.one.other_parts.0.own
-    (made_alone is_edit no_edits (relaying.workers + 1) r.history r.crew r.relay.pass (are_players relaying.workers r.crew r.roles) r.one) is in
-    (x, shown.0, shown.1)
+    let own = r.one.other_parts.0.own in
+    let alone = made_alone is_edit no_edits (relaying.workers + 1) r.history r.crew r.relay.pass (are_players relaying.workers r.crew r.roles) r.one in (
+      x,
+      shares_make_steps relaying.upstream relaying.rounds _ r.relay.link.taken r.relay.pass r.history x own alone,
+      λ first middle rest is. relays_show_what_they_read relaying.upstream relaying.rounds _ r.relay.link.taken r.relay.pass r.history first middle rest x own alone is,
+    )

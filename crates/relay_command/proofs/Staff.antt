@@ -12,18 +12,18 @@ use Rattle.share_workers.specs.declared.worker.Worker.{Worker}
 use Rattle.share_crew.specs.Crews.{HasHired, IsHired}
 
 module _ {D : Type 0} where
-  pub hired_all : (id : LockId) (k k' : Pass) (role : Role) (doors : List D) (before after : List (Worker D)) → before ≡ [] → k' ≡ k → HasHired id k role doors before after
+  pub hired_all : (id : LockId) (k k' : Pass) (role : Role) (listeners : List D) (before after : List (Worker D)) → before ≡ [] → k' ≡ k → HasHired id k role listeners before after
       → All (IsHired id k') after
-  hired_all id k k' role doors before after none same h =
+  hired_all id k k' role listeners before after none same h =
       let are : after ≡ h.added = h.are ∙ ap (λ (l : List (Worker D)). l ++ h.added) none in
       subst (λ (p : Pass). All (IsHired id p) after) (sym same) (subst (All (IsHired id k)) (sym are) h.hired)
 
-  pub roles_all : (id : LockId) (k : Pass) (role : Role) (doors : List D) (before after : List (Worker D)) → before ≡ [] → HasHired id k role doors before after
+  pub roles_all : (id : LockId) (k : Pass) (role : Role) (listeners : List D) (before after : List (Worker D)) → before ≡ [] → HasHired id k role listeners before after
       → map (λ (w : Worker D). w.role) after ≡ map (λ (w : Worker D). role) after
-  roles_all id k role doors before after none h =
+  roles_all id k role listeners before after none h =
       let are : after ≡ h.added = h.are ∙ ap (λ (l : List (Worker D)). l ++ h.added) none in
       subst (λ (l : List (Worker D)). map (λ (w : Worker D). w.role) l ≡ map (λ (w : Worker D). role) l) (sym are)
-      (h.roles_are ∙ ap (map (λ (d : D). role)) (sym h.doors_are) ∙ map-map (λ (d : D). role) (λ (w : Worker D). w.door) h.added)
+      (h.roles_are ∙ ap (map (λ (d : D). role)) (sym h.listeners_are) ∙ map-map (λ (d : D). role) (λ (w : Worker D). w.listener) h.added)
 
 -- what holds of all items holds of those before the last, and of the last
 pub front_of : {A : Type 0} (P : A → Type 0) (xs : List A) (y : A) → All P (xs ++ y ∷ []) → All P xs

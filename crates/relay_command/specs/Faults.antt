@@ -1,7 +1,7 @@
 -- The lines and the statuses of the errors of `relay`, and which of two counts more.
 use Rattle.std.specs.Prelude.{ℕ, List, [], ◌∷◌, ◌++◌, codes, decimal, Option, Some, None, ◌==◌, nat_le, if◌then◌else◌}
-use Rattle.daap_outside.specs.declared.net.NetError.{NetError}
-use Rattle.daap_outside.specs.declared.net.NetError.TheVariants as nets
+use Rattle.outside_net.specs.declared.net.NetError.{NetError}
+use Rattle.outside_net.specs.declared.net.NetError.TheVariants as nets
 use Rattle.command_core.specs.declared.fault.Fault.{Fault}
 use Rattle.command_core.specs.declared.fault.Fault.TheVariants as fault
 use Rattle.command_core.specs.Faults.{fault_status}

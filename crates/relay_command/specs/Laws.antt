@@ -1,13 +1,13 @@
 -- What follows for a run of `relay`: what its players can see, and when it succeeds.
 use Rattle.std.specs.Prelude.{◌≡◌, ◌≢◌, ◌⊎◌, ⊤, ℕ, List, [], ◌∷◌, ◌++◌, length, map, true, Option, Some, None}
-use Rattle.daap_outside.specs.Counts.{Rose}
+use Rattle.outside_net.specs.Counts.{Rose}
 use Rattle.item_model.specs.declared.changes.Entry.{Entry}
 use Rattle.item_model.specs.declared.request.Meta.TheVariants.{All}
 use Rattle.item_model.specs.declared.request.Target.TheVariants.{Items}
 use Rattle.mirror_client.specs.declared.refusal.FollowError.TheVariants.{LinkFault}
 use Rattle.mirror_client.specs.Points.{Point}
 use Rattle.mirror_client.specs.Stages.{listings_in}
-use Rattle.share_history.specs.Histories.{all_edits}
+use Rattle.share_history.specs.Histories.{all_edits, batches}
 use Rattle.share_history.specs.Rows.{library}
 use Rattle.share_history.specs.Whole.{IsWhole}
 use Rattle.share_replies.specs.Settings.{Settings}
@@ -18,7 +18,7 @@ use Rattle.command_core.specs.Seen.{NetSeen, OutputSeen}
 use Rattle.link_commands.specs.Linked.{start_of}
 use Rattle.share_crew.specs.declared.outcome.Outcome.{Outcome}
 use Rattle.share_crew.specs.Verdicts.{has_end}
-use Rattle.relayed_rows.specs.Relays.{StandsAt, relay_of}
+use Rattle.relayed_rows.specs.Relays.{StandsAt, relay_of, steps_between}
 use Rattle.relay_share.specs.Ends.{HasRelayed}
 use Rattle.relay_share.specs.Laws.{LeavesSteps}
 use Rattle.relay_share.specs.declared.report.RelayEnd.{RelayEnd}
@@ -28,14 +28,15 @@ use Rattle.relay_command.specs.Lines.{relaying_line}
 use Rattle.relay_command.specs.Runs.{HasServed, RelayEnds}
 use Rattle.relay_command.specs.declared.terms.Relaying.{Relaying}
 
--- At each length of the history that a run leaves, the library is one that the relay read on its connection, or the
--- empty one. At a later length it is that one, or one that the relay read later.
+-- The batches that a run leaves are the steps between the libraries that the relay read on its connection, from the
+-- empty one. So at each length of the history that a run leaves, the library is one of these, or the empty one. At a
+-- later length it is that one, or one that the relay read later.
 abbrev pub RunsShowWhatTheyRead : Type 0
 RunsShowWhatTheyRead =
-    (relaying : Relaying) (front : List ℕ) (net net' : NetSeen) (output output' : OutputSeen) (left : Outcome) (first middle rest : List Entry)
-    → (r : HasServed relaying front net net' output output' left) → r.history ≡ first ++ (middle ++ rest)
-    → (x : LeavesSteps relaying.upstream relaying.rounds (start_of r.relay.link) r.relay.link.taken r.relay.pass) × (s : StandsAt ([] ∷ relay_of (listings_in x.stage)) first)
-    × StandsAt (library (all_edits first) ∷ s.ahead) (first ++ middle)
+    (relaying : Relaying) (front : List ℕ) (net net' : NetSeen) (output output' : OutputSeen) (left : Outcome) → (r : HasServed relaying front net net' output output' left)
+    → (x : LeavesSteps relaying.upstream relaying.rounds (start_of r.relay.link) r.relay.link.taken r.relay.pass) × (batches r.history ≡ steps_between [] (relay_of (listings_in x.stage)))
+    × ((first middle rest : List Entry) → r.history ≡ first ++ (middle ++ rest)
+    → (s : StandsAt ([] ∷ relay_of (listings_in x.stage)) first) × StandsAt (library (all_edits first) ∷ s.ahead) (first ++ middle))
 
 -- ---- what a share sends
 

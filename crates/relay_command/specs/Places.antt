@@ -1,12 +1,12 @@
 -- The connection and the listeners of a relay, and what opening them does to a network.
 use Rattle.std.specs.Prelude.{◌≡◌, ◌⊎◌, ◌≤◌, ◌+◌, ◌-◌, ℕ, List, [], ◌∷◌, take, length, false, Option, Some, IfSome}
-use Rattle.daap_outside.specs.Counts.{Rose}
-use Rattle.daap_outside.specs.Places.{Returned}
-use Rattle.daap_outside.specs.Told.{BeginsEmpty, Grows}
+use Rattle.outside_net.specs.Counts.{Rose}
+use Rattle.outside_net.specs.Places.{Returned}
+use Rattle.outside_net.specs.Told.{BeginsEmpty, Grows}
 use Rattle.command_core.specs.Seen.{NetSeen}
 use Rattle.command_core.specs.declared.fault.Fault.{Fault}
 use Rattle.command_core.specs.declared.fault.Fault.TheVariants as fault
-use Rattle.share_crew.specs.Doors.{HaveLinks}
+use Rattle.share_crew.specs.Listeners.{HaveLinks}
 use Rattle.relay_command.specs.declared.fault.RelayFault.{RelayFault}
 use Rattle.relay_command.specs.declared.fault.RelayFault.TheVariants.{Network}
 use Rattle.relay_command.specs.declared.terms.Relaying.{Relaying}
@@ -17,7 +17,7 @@ pub record HasOpened (relaying : Relaying) (before after : NetSeen) (taken left 
   pub count : length coming ≡ relaying.workers + 1
   pub asked : Grows before.asked after.asked (places_of relaying)
   pub written : Grows before.written after.written []
-  pub links : HaveLinks before.door_links coming
+  pub links : HaveLinks before.listener_links coming
   pub begun : BeginsEmpty before.written taken
   pub input : IfSome before.next_input (λ input. left ≡ Some input)
   pub fresh : faults ≡ 0

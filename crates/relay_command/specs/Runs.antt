@@ -1,8 +1,8 @@
 -- How a run of `relay` ends.
 use Rattle.std.specs.Prelude.{◌≡◌, ◌⊎◌, ◌+◌, ◌||◌, ℕ, List, [], ◌∷◌, ◌++◌, map, MatchBool, Option, Some, None, IfSome, is_none, nat_lt, option_map, if◌then◌else◌}
 use Rattle.std.specs.List.{flat_map, AllByRecursion}
-use Rattle.daap_outside.specs.Counts.{Rose}
-use Rattle.daap_outside.specs.Told.{BeginsEmpty, Grows, GrowsByTold}
+use Rattle.outside_net.specs.Counts.{Rose}
+use Rattle.outside_net.specs.Told.{BeginsEmpty, Grows, GrowsByTold}
 use Rattle.item_model.specs.declared.changes.Entry.{Entry}
 use Rattle.share_history.specs.Histories.{batches, revision}
 use Rattle.share_history.specs.Whole as histories
@@ -18,7 +18,7 @@ use Rattle.command_core.specs.Faults.{fault_line, fault_status, memory_line}
 use Rattle.command_core.specs.Seen.{NetSeen, OutputSeen}
 use Rattle.link_commands.specs.Linked.{LinkSeen, start_of}
 use Rattle.share_crew.specs.declared.outcome.Outcome.{Outcome}
-use Rattle.share_crew.specs.Doors.{HaveLinks}
+use Rattle.share_crew.specs.Listeners.{HaveLinks}
 use Rattle.share_crew.specs.Lines.{ended_line}
 use Rattle.share_crew.specs.Stints.{Stint, IsHistoryOf, IsWhole, returns_of}
 use Rattle.share_crew.specs.Verdicts.{has_end, verdict_of}
@@ -77,7 +77,7 @@ pub record HasServed (relaying : Relaying) (front : List ℕ) (net net' : NetSee
   pub input : IfSome net.next_input (λ input. relay.link.left ≡ Some input)
   pub relayed : HasRelayed relaying.upstream relaying.rounds (start_of relay.link) relay.link.taken (fresh relay.pass.number (settings_of relaying) []) relay.pass relay.report
   -- each worker had a listener, which was closed, and then the connection was
-  pub to_come : HaveLinks net.door_links (map (λ stint. stint.to_come) crew)
+  pub to_come : HaveLinks net.listener_links (map (λ stint. stint.to_come) crew)
   pub asked : Grows net.asked net'.asked (places_of relaying)
   pub written : GrowsByTold net.written net'.written (option_map (λ bytes. flat_map returns_of crew ++ (bytes, nat_lt 0 relay.link.faults) ∷ []) relay.link.taken)
   pub counts : MatchBool (has_end AcceptFault (map (λ stint. stint.end) crew) || is_fault relay.report.end) (Rose net.faults net'.faults) (net'.faults ≡ net.faults)

@@ -1,7 +1,7 @@
 //! Writes the lines after the last round, and returns the status.
 
 ghost use Rattle.std.specs.Prelude.{◌≡◌, ◌<◌, ◌^◌, ◌++◌, Some, map, IfOk, MatchResult};
-ghost use Rattle.command_core.specs.Seen.{output_seen};
+ghost use Rattle.command_core.specs.Seen.{output_of};
 ghost use Rattle.command_core.specs.declared.fault.Fault.TheVariants.{Memory};
 ghost use Rattle.relay_command.specs.Faults.{worse};
 ghost use Rattle.share_history.specs.Histories.{batches, revision};
@@ -12,8 +12,8 @@ ghost use Rattle.relay_command.specs.Runs.{TellsBehind, TellsEnd, TellsRuling, l
 
 use crate::fault::{RelayFault, rank_of};
 use command_core::{Fault, write_error};
-use daap_outside::{Sink, put_all};
 use fault_lines::push_number;
+use outside_net::{Sink, put_all};
 use relay_share::Relayed;
 use share_core::Share;
 use share_crew::{LinkReports, Outcome, ended_line_of};
@@ -33,8 +33,8 @@ pub(crate) fn finish<W: Sink>(
     requires requests { requests_in links < 2 ^ 64 }
     ensures left { LeavesShare share.history links result }
     ensures told { TellsEnd (last_lines (revision (batches share.history)) links rounds.now fault) fault
-        (output_seen (W.taken output.old) (W.faults output.old))
-        (output_seen (W.taken output.new) (W.faults output.new))
+        (output_of W.Sink output.old)
+        (output_of W.Sink output.new)
         result.status }
 {
     let lines = last_lines(alloc, share.revision(), links.as_slice(), rounds, &fault);
@@ -97,12 +97,12 @@ fn write_end<W: Sink>(
 ) -> u8
     ensures { MatchResult lines
         (λ text. TellsBehind text.items fault
-        (output_seen (W.taken output.old) (W.faults output.old))
-        (output_seen (W.taken output.new) (W.faults output.new))
+        (output_of W.Sink output.old)
+        (output_of W.Sink output.new)
         result)
         (λ _. TellsRuling (worse fault (Some Memory))
-        (output_seen (W.taken output.old) (W.faults output.old))
-        (output_seen (W.taken output.new) (W.faults output.new))
+        (output_of W.Sink output.old)
+        (output_of W.Sink output.new)
         result) }
 {
     match lines {
@@ -116,7 +116,7 @@ fn write_end<W: Sink>(
 
 // Writes the line of `fault`, if there is one. Returns the status.
 fn write_verdict<W: Sink>(alloc: Global, output: &mut W, fault: Option<Fault<RelayFault>>) -> u8
-    ensures { TellsRuling fault (output_seen (W.taken output.old) (W.faults output.old)) (output_seen (W.taken output.new) (W.faults output.new)) result }
+    ensures { TellsRuling fault (output_of W.Sink output.old) (output_of W.Sink output.new) result }
 {
     match fault {
         Some(fault) => write_error(alloc, output, &fault).status,

@@ -1,8 +1,8 @@
 //! The command `relay`.
 
 ghost use Rattle.std.specs.Prelude.{◌≡◌, ◌+◌, ◌-◌, length, map};
-ghost use Rattle.command_core.specs.Seen.{NetSeen, net_seen, output_seen};
-ghost use Rattle.share_crew.specs.Doors.{AreNew};
+ghost use Rattle.command_core.specs.Seen.{NetSeen, net_of, output_of};
+ghost use Rattle.share_crew.specs.Listeners.{AreNew};
 ghost use Rattle.relay_command.specs.Places.{HasOpened, IsGivenBack};
 ghost use Rattle.relay_command.specs.Runs.{HasNoShare, RelayEnds};
 ghost use Rattle.relay_command.specs.Terms.{MayRelay};
@@ -11,8 +11,8 @@ use crate::opening::{Places, begin, opened};
 use crate::running::relay_begun;
 use crate::terms::Relaying;
 use command_core::write_error;
-use daap_outside::{Net, Sink};
-use share_crew::{LinkReports, Outcome, shut_all};
+use outside_net::{Net, Sink};
+use share_crew::{LinkReports, Outcome, close_all};
 use std::alloc::Global;
 use std::sync::Wait;
 use std::thread::Threads;
@@ -29,10 +29,10 @@ pub fn relay<W: Sink, N: Net, R: Threads + Wait + Clock + Sync>(
 ) -> Outcome
     requires { MayRelay relaying.now }
     ensures ends { RelayEnds relaying.now
-        (net_seen (N.asked net.old) (N.written net.old) (N.door_links net.old) (N.next_input net.old) (N.faults net.old))
-        (net_seen (N.asked net.new) (N.written net.new) (N.door_links net.new) (N.next_input net.new) (N.faults net.new))
-        (output_seen (W.taken output.old) (W.faults output.old))
-        (output_seen (W.taken output.new) (W.faults output.new))
+        (net_of N.Net net.old)
+        (net_of N.Net net.new)
+        (output_of W.Sink output.old)
+        (output_of W.Sink output.new)
         result }
     ensures open_stays { N.open_count net.new ≡ N.open_count net.old }
 {
@@ -51,15 +51,15 @@ pub fn relay<W: Sink, N: Net, R: Threads + Wait + Clock + Sync>(
 // Closes the listeners, at which no worker has accepted, and the connection.
 fn given_back<N: Net>(net: &mut N, places: Places<N::L, N::D>)
     ensures back { (start : NetSeen) (relaying : Relaying)
-        → HasOpened relaying start (net_seen (N.asked net.old) (N.written net.old) (N.door_links net.old) (N.next_input net.old) (N.faults net.old))
-        (N.L.taken places.link) (N.L.left places.link) (N.L.faults places.link) (map N.D.coming places.doors.items)
-        → AreNew N.D.written N.D.faults start.written places.doors.items
+        → HasOpened relaying start (net_of N.Net net.old)
+        (N.L.taken places.link) (N.L.left places.link) (N.L.faults places.link) (map N.D.coming places.listeners.items)
+        → AreNew N.D.written N.D.faults start.written places.listeners.items
         → IsGivenBack relaying start
-        (net_seen (N.asked net.new) (N.written net.new) (N.door_links net.new) (N.next_input net.new) (N.faults net.new)) }
-    ensures closes { N.open_count net.new ≡ N.open_count net.old - (length places.doors.items + 1) }
+        (net_of N.Net net.new) }
+    ensures closes { N.open_count net.new ≡ N.open_count net.old - (length places.listeners.items + 1) }
 {
-    shut_all(net, places.doors);
-    net.hang_up(places.link);
+    close_all(net, places.listeners);
+    net.close(places.link);
 }
 
 // Returns the outcome if no share was put under a lock.

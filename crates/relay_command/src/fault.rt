@@ -4,9 +4,9 @@ ghost use Rattle.std.specs.Prelude.{◌≡◌, IfOk};
 ghost use Rattle.relay_command.specs.Faults.{relay_line, relay_status, net_fault, crew_fault, end_fault, rank_of, worse};
 
 use command_core::{Fault, Refusal};
-use daap_outside::NetError;
 use fault_lines::push_number;
 use link_commands::FollowFault;
+use outside_net::NetError;
 use relay_share::RelayEnd;
 use share_crew::Verdict;
 use std::alloc::{AllocError, Global};

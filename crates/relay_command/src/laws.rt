@@ -2,8 +2,9 @@
 
 ghost use Rattle.relay_command.specs.Laws.{RunsAreNotStopped, RunsShowWhatTheyRead, RunsSucceed, ServedRelaysGoOn, ServedRunsSucceed, SuccessesMakeAllRounds};
 
-/// What the players of a relay can see at any length of the history is a library that the relay read, or the empty one.
-/// They never see an earlier one after a later one.
+/// The batches of a relay's share are the steps between the libraries that the relay read. What the players can see at
+/// any length of the history is one of these libraries, or the empty one. They never see an earlier one after a later
+/// one.
 pub fn runs_show_what_they_read()
     ensures { RunsShowWhatTheyRead }
 {}

@@ -2,9 +2,9 @@
 //! its lock.
 
 ghost use Rattle.std.specs.Prelude.{◌≡◌, ◌+◌, map, length, IfOk, IfErr, OnErr, MatchResult};
-ghost use Rattle.command_core.specs.Seen.{net_seen, output_seen};
+ghost use Rattle.command_core.specs.Seen.{net_of, output_of};
 ghost use Rattle.share_crew.specs.Begun.{HasRoom};
-ghost use Rattle.share_crew.specs.Doors.{AreNew};
+ghost use Rattle.share_crew.specs.Listeners.{AreNew};
 ghost use Rattle.relay_command.specs.Begun.{HasBegun, NotAnnounced};
 ghost use Rattle.relay_command.specs.Lines.{relaying_line};
 ghost use Rattle.relay_command.specs.Places.{HasOpened, FailsToOpen};
@@ -13,8 +13,8 @@ ghost use Rattle.relay_command.specs.Terms.{MayRelay, empty_share};
 use crate::fault::{RelayFault, net_fault};
 use crate::terms::Relaying;
 use command_core::{Fault, out_of_memory};
-use daap_outside::{Failed, Net, Sink};
 use item_model::{Batch, Edits};
+use outside_net::{Failed, Net, Sink};
 use share_core::Share;
 use share_crew::{LockedShare, WorkerBuffers, announced};
 use std::alloc::{AllocError, Global};
@@ -23,7 +23,7 @@ use std::alloc::{AllocError, Global};
 #[derive(Drop)]
 pub(crate) struct Places<K, D> {
     pub(crate) link: K,
-    pub(crate) doors: Vec<D>,
+    pub(crate) listeners: Vec<D>,
 }
 
 /// Connects to the share that is followed, and then opens the address of the players. If that fails, closes the
@@ -34,15 +34,15 @@ pub(crate) fn opened<N: Net>(
 ) -> Result<Places<N::L, N::D>, Fault<RelayFault>>
     requires { MayRelay relaying.now }
     ensures opened { IfOk result (λ p. HasOpened relaying.now
-        (net_seen (N.asked net.old) (N.written net.old) (N.door_links net.old) (N.next_input net.old) (N.faults net.old))
-        (net_seen (N.asked net.new) (N.written net.new) (N.door_links net.new) (N.next_input net.new) (N.faults net.new))
-        (N.L.taken p.link) (N.L.left p.link) (N.L.faults p.link) (map N.D.coming p.doors.items)) }
-    ensures doors { IfOk result (λ p. AreNew N.D.written N.D.faults (N.written net.old) p.doors.items) }
+        (net_of N.Net net.old)
+        (net_of N.Net net.new)
+        (N.L.taken p.link) (N.L.left p.link) (N.L.faults p.link) (map N.D.coming p.listeners.items)) }
+    ensures listeners { IfOk result (λ p. AreNew N.D.written N.D.faults (N.written net.old) p.listeners.items) }
     ensures failed { IfErr result (λ stop. FailsToOpen relaying.now
-        (net_seen (N.asked net.old) (N.written net.old) (N.door_links net.old) (N.next_input net.old) (N.faults net.old))
-        (net_seen (N.asked net.new) (N.written net.new) (N.door_links net.new) (N.next_input net.new) (N.faults net.new))
+        (net_of N.Net net.old)
+        (net_of N.Net net.new)
         stop) }
-    ensures opens { IfOk result (λ p. N.open_count net.new ≡ N.open_count net.old + (length p.doors.items + 1)) }
+    ensures opens { IfOk result (λ p. N.open_count net.new ≡ N.open_count net.old + (length p.listeners.items + 1)) }
     ensures closes { OnErr result (N.open_count net.new ≡ N.open_count net.old) }
 {
     let link = match net.connect(relaying.upstream.as_str()) {
@@ -50,9 +50,9 @@ pub(crate) fn opened<N: Net>(
         Err(Failed) => return Err(Fault::Own(RelayFault::Network)),
     };
     match net.listen(relaying.listen.as_str(), relaying.workers + 1) {
-        Ok(doors) => Ok(Places { link, doors }),
+        Ok(listeners) => Ok(Places { link, listeners }),
         Err(error) => {
-            net.hang_up(link);
+            net.close(link);
             Err(net_fault(error))
         }
     }
@@ -72,11 +72,11 @@ pub(crate) fn begin<W: Sink, D: Drop>(
     requires may { MayRelay relaying.now }
     ensures { MatchResult result
         (HasBegun relaying.now
-        (output_seen (W.taken output.old) (W.faults output.old))
-        (output_seen (W.taken output.new) (W.faults output.new)))
+        (output_of W.Sink output.old)
+        (output_of W.Sink output.new))
         (NotAnnounced (relaying_line relaying.now.name)
-        (output_seen (W.taken output.old) (W.faults output.old))
-        (output_seen (W.taken output.new) (W.faults output.new))) }
+        (output_of W.Sink output.old)
+        (output_of W.Sink output.new)) }
 {
     match prepare(alloc, relaying) {
         Ok(Prepared { share, line, room }) => announced(

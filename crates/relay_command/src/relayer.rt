@@ -6,7 +6,7 @@ ghost use Rattle.share_lock.specs.Passes.{known, IsReady};
 ghost use Rattle.relay_share.specs.Ends.{CountsRelay, HasRelayed};
 
 use crate::terms::Relaying;
-use daap_outside::{Door, Link};
+use outside_net::{Link, Listener};
 use relay_share::{RelayReport, relay_link};
 use share_core::Share;
 use share_crew::Partner;
@@ -20,17 +20,17 @@ pub(crate) struct Relayer<'a, K, D> {
     pub(crate) terms: &'a Relaying,
     pub(crate) pass: Pass<Share>,
     pub(crate) link: K,
-    pub(crate) door: D,
+    pub(crate) listener: D,
     pub(crate) report: RelayReport,
 }
 
-impl<'a, K: Link, D: Door> Partner for Relayer<'a, K, D> {
+impl<'a, K: Link, D: Listener> Partner for Relayer<'a, K, D> {
     ghost ready = { λ id relayer. IsReady id relayer.pass × (1 ≤ relayer.terms.now.rounds) × (relayer.terms.now.rounds ≤ 16384) };
 
     ghost worked = { λ id before after. IsReady id after.pass
         × HasRelayed before.terms.now.upstream before.terms.now.rounds (place (K.taken before.link) (K.left before.link) nothing_read) (K.taken after.link) (known before.pass) (known after.pass) after.report
         × CountsRelay (K.faults before.link) (K.faults after.link) after.report.end
-        × (D.written after.door ≡ D.written before.door) × (D.faults after.door ≡ D.faults before.door) };
+        × (D.written after.listener ≡ D.written before.listener) × (D.faults after.listener ≡ D.faults before.listener) };
 
     fn work<R: Wait + Clock>(
         &mut self,
@@ -49,6 +49,6 @@ impl<'a, K: Link, D: Door> Partner for Relayer<'a, K, D> {
             self.terms.upstream.as_str(),
             self.terms.rounds,
         );
-        self.door.nudge();
+        self.listener.wake_acceptors();
     }
 }

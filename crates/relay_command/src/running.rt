@@ -1,12 +1,12 @@
 //! Runs a relay's share from its first connection to its last.
 
 ghost use Rattle.std.specs.Prelude.{◌≡◌, ◌≤◌, ◌+◌, ◌-◌, [], ◌∷◌, ◌++◌, ℕ, List, map, length, All, vec_len, vec_capacity};
-ghost use Rattle.command_core.specs.Seen.{NetSeen, OutputSeen, net_seen, output_seen};
+ghost use Rattle.command_core.specs.Seen.{NetSeen, OutputSeen, net_of, output_of};
 ghost use Rattle.command_core.specs.Endings.{IsWritten};
 ghost use Rattle.share_lock.specs.Known.{fresh};
 ghost use Rattle.share_lock.specs.Passes.{lock_id, known, passes_of, IsReady};
 ghost use Rattle.share_crew.specs.Crews.{IsHired};
-ghost use Rattle.share_crew.specs.Doors.{AreNew};
+ghost use Rattle.share_crew.specs.Listeners.{AreNew};
 ghost use Rattle.relay_command.specs.Begun.{HasBegun};
 ghost use Rattle.relay_command.specs.Places.{HasOpened};
 ghost use Rattle.relay_command.specs.Runs.{HasServed};
@@ -17,7 +17,7 @@ use crate::fault::ruling;
 use crate::opening::Places;
 use crate::relayer::Relayer;
 use crate::terms::Relaying;
-use daap_outside::{Net, Sink};
+use outside_net::{Net, Sink};
 use relay_share::{RelayEnd, RelayReport};
 use share_asks::Role;
 use share_core::Share;
@@ -44,26 +44,26 @@ pub(crate) fn relay_begun<W: Sink, N: Net, R: Threads + Wait + Clock + Sync>(
     requires ready { IsReady (lock_id begun.lock) begun.first }
     requires no_crew { begun.room.crew.items ≡ [] }
     requires no_links { begun.room.links.items ≡ [] }
-    requires doors { length places.doors.items ≡ relaying.now.workers + 1 }
+    requires listeners { length places.listeners.items ≡ relaying.now.workers + 1 }
     requires crew { relaying.now.workers ≤ vec_capacity begun.room.crew }
     requires links { relaying.now.workers ≤ vec_capacity begun.room.links }
     ensures serves { (start : NetSeen) (before first : OutputSeen) (front : List ℕ) → HasBegun relaying.now before first begun
-        → HasOpened relaying.now start (net_seen (N.asked net.old) (N.written net.old) (N.door_links net.old) (N.next_input net.old) (N.faults net.old))
-        (N.L.taken places.link) (N.L.left places.link) (N.L.faults places.link) (map N.D.coming places.doors.items)
-        → AreNew N.D.written N.D.faults start.written places.doors.items
-        → IsWritten before (output_seen (W.taken output.old) (W.faults output.old)) front
+        → HasOpened relaying.now start (net_of N.Net net.old)
+        (N.L.taken places.link) (N.L.left places.link) (N.L.faults places.link) (map N.D.coming places.listeners.items)
+        → AreNew N.D.written N.D.faults start.written places.listeners.items
+        → IsWritten before (output_of W.Sink output.old) front
         → HasServed relaying.now front start
-        (net_seen (N.asked net.new) (N.written net.new) (N.door_links net.new) (N.next_input net.new) (N.faults net.new))
-        before (output_seen (W.taken output.new) (W.faults output.new)) result }
-    ensures closes { N.open_count net.new ≡ N.open_count net.old - (length places.doors.items + 1) }
+        (net_of N.Net net.new)
+        before (output_of W.Sink output.new) result }
+    ensures closes { N.open_count net.new ≡ N.open_count net.old - (length places.listeners.items + 1) }
 {
-    let Places { link, doors } = places;
-    let (begun, pass, door) = assign_workers(rt, alloc, begun, doors);
+    let Places { link, listeners } = places;
+    let (begun, pass, listener) = assign_workers(rt, alloc, begun, listeners);
     let mut relayer = Relayer {
         terms: relaying,
         pass,
         link,
-        door,
+        listener,
         report: RelayReport {
             rounds: Vec::new(alloc),
             end: RelayEnd::Memory,
@@ -79,12 +79,12 @@ pub(crate) fn relay_begun<W: Sink, N: Net, R: Threads + Wait + Clock + Sync>(
         terms: _,
         pass,
         link,
-        door,
+        listener,
         report: RelayReport { rounds, end },
     } = relayer;
     lock.join(&mut first, pass);
-    net.shut(door);
-    net.hang_up(link);
+    net.close_listener(listener);
+    net.close(link);
     let share = share_of(rt, &lock, &mut first);
     finish(
         alloc,
@@ -102,18 +102,18 @@ fn assign_workers<D: Drop, R: Wait>(
     rt: &R,
     alloc: Global,
     begun: LockedShare<D>,
-    doors: Vec<D>,
+    listeners: Vec<D>,
 ) -> (LockedShare<D>, Pass<Share>, D)
     requires ready { IsReady (lock_id begun.lock) begun.first }
     requires empty { begun.room.crew.items ≡ [] }
-    requires some { 1 ≤ length doors.items }
-    requires room { length doors.items ≤ vec_capacity begun.room.crew + 1 }
+    requires some { 1 ≤ length listeners.items }
+    requires room { length listeners.items ≤ vec_capacity begun.room.crew + 1 }
     ensures lock { lock_id result.0.lock ≡ lock_id begun.lock }
     ensures ready { IsReady (lock_id result.0.lock) result.0.first }
     ensures pass { known result.0.first ≡ known begun.first }
     ensures hired { All (IsHired (lock_id result.0.lock) (known result.0.first)) result.0.room.crew.items }
     ensures roles { map (λ w. w.role) result.0.room.crew.items ≡ map (λ w. Role.Listen) result.0.room.crew.items }
-    ensures doors { doors.items ≡ map (λ w. w.door) result.0.room.crew.items ++ result.2 ∷ [] }
+    ensures listeners { listeners.items ≡ map (λ w. w.listener) result.0.room.crew.items ++ result.2 ∷ [] }
     ensures links { result.0.room.links ≡ begun.room.links }
     ensures relay_ready { IsReady (lock_id result.0.lock) result.1 }
     ensures relay_pass { known result.1 ≡ fresh (known result.1).number (known begun.first).settings (known begun.first).seen }
@@ -125,9 +125,17 @@ fn assign_workers<D: Drop, R: Wait>(
         mut first,
         room: WorkerBuffers { mut crew, links },
     } = begun;
-    let mut doors = doors;
-    let last = doors.pop().unwrap();
-    add_workers(rt, alloc, &lock, &mut first, doors, Role::Listen, &mut crew);
+    let mut listeners = listeners;
+    let last = listeners.pop().unwrap();
+    add_workers(
+        rt,
+        alloc,
+        &lock,
+        &mut first,
+        listeners,
+        Role::Listen,
+        &mut crew,
+    );
     let pass = lock.split(rt, &mut first).unwrap();
     let begun = LockedShare {
         lock,

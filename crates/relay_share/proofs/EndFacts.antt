@@ -1,7 +1,7 @@
 -- How a relay begins, and how it ends at each of its steps.
 use Rattle.std.proofs.Common.{◌≡◌, ◌≢◌, ◌≤◌, ◌<◌, ◌⊎◌, ℕ, List, [], ◌∷◌, ◌++◌, length, ◌==◌, Bool, true, false, Option, Some, None, refl, sym, ap, ◌∙◌, subst, inl, inr, append-nil, eq-eqb, arith}
 use Rattle.std.specs.Prelude.{Result, Ok, Err, IfErr, MatchResult, MatchBool}
-use Rattle.daap_outside.specs.Counts.{Rose}
+use Rattle.outside_net.specs.Counts.{Rose}
 use Rattle.dmap_tags.specs.Codes.{code}
 use Rattle.dmap_tags.specs.Tree.{Tree}
 use Rattle.code_table.specs.declared.row.CodeRow.{CodeRow}

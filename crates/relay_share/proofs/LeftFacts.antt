@@ -26,7 +26,7 @@ use Rattle.relayed_rows.specs.Libraries.{IsLibrary}
 use Rattle.relayed_rows.specs.Relays.{nothing_held, relay_of, steps_between}
 use Rattle.relayed_rows.proofs.StepFacts.{relays_never_go_back}
 use Rattle.relay_share.specs.Ends.{EndsRelay, Halts, Leaves, Refuses, Relays}
-use Rattle.relay_share.specs.Laws.{EditsAlone, RelaysLeaveSteps, RelaysShowWhatTheyRead, StoppedRelaysSawAStop, edits_by, is_stop_beside, stop_behind}
+use Rattle.relay_share.specs.Laws.{EditsAlone, RelaysLeaveSteps, RelaysShowWhatTheyRead, SharesMakeSteps, StoppedRelaysSawAStop, edits_by, is_stop_beside, stop_behind}
 use Rattle.relay_share.specs.Rounds.{IsRefused, batch_of, followed, made_status}
 use Rattle.relay_share.specs.declared.report.Relayed.{Relayed}
 use Rattle.relay_share.specs.declared.report.RelayEnd.{RelayEnd}
@@ -199,10 +199,12 @@ module _ (number : ℕ) where
   batches_of_one [] own = refl
   batches_of_one (e ∷ h) own = one_more (maker e == number) e h own.0 refl (batches_of_one h own.1)
 
+pub shares_make_steps : SharesMakeSteps
+shares_make_steps host rounds p taken k h r same alone =
+    let steps : List (List Edit) = steps_between [] (relay_of (listings_in r.stage)) in
+    batches_of_one k.number h alone ∙ ap batches (same ∙ r.entries) ∙ batches-append (edits_by k.number steps) (stop_behind k.number k.seen)
+    ∙ ap₂ (λ (xs ys : List (List Edit)). xs ++ ys) (batches_by k.number steps) (none_in _ k.number) ∙ append-nil steps
+
 pub relays_show_what_they_read : RelaysShowWhatTheyRead
 relays_show_what_they_read host rounds p taken k h front middle rest r same alone is =
-    let steps : List (List Edit) = steps_between [] (relay_of (listings_in r.stage)) in
-    relays_never_go_back (relay_of (listings_in r.stage)) h front middle rest r.libraries
-    (batches_of_one k.number h alone ∙ ap batches (same ∙ r.entries) ∙ batches-append (edits_by k.number steps) (stop_behind k.number k.seen)
-    ∙ ap₂ (λ (xs ys : List (List Edit)). xs ++ ys) (batches_by k.number steps) (none_in _ k.number) ∙ append-nil steps)
-    is
+    relays_never_go_back (relay_of (listings_in r.stage)) h front middle rest r.libraries (shares_make_steps host rounds p taken k h r same alone) is

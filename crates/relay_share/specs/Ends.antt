@@ -2,7 +2,7 @@
 -- connection, and each of them is an edit of its handle at the share.
 use Rattle.std.specs.Prelude.{◌≡◌, ◌≢◌, ◌⊎◌, ℕ, List, [], ◌∷◌, ◌++◌, length, Bool, true, false, MatchBool, Option, Some, None, ◌==◌, if◌then◌else◌}
 use Rattle.std.specs.List.{AllByRecursion}
-use Rattle.daap_outside.specs.Counts.{Rose}
+use Rattle.outside_net.specs.Counts.{Rose}
 use Rattle.share_history.specs.Listings.{Listing}
 use Rattle.share_history.specs.Sessions.{is_stopped}
 use Rattle.mirror_client.specs.declared.refusal.FollowError.{FollowError}

@@ -10,7 +10,7 @@ use Rattle.item_model.specs.declared.request.Target.TheVariants.{Items}
 use Rattle.mirror_client.specs.Laws.{AreAnswers, NeverFall, last_point}
 use Rattle.mirror_client.specs.Points.{Point}
 use Rattle.mirror_client.specs.Stages.{Begun, Stage, Walks, listings_in}
-use Rattle.share_history.specs.Histories.{all_edits}
+use Rattle.share_history.specs.Histories.{all_edits, batches}
 use Rattle.share_history.specs.Listings.{Listing}
 use Rattle.share_history.specs.Rows.{library}
 use Rattle.share_history.specs.Sessions.{is_stop, is_stopped}
@@ -79,6 +79,13 @@ StoppedRelaysSawAStop =
 -- Only the handle with this number made edits.
 abbrev pub EditsAlone : ℕ → List Entry → Type 0
 EditsAlone number h = AllByRecursion (λ e. is_edit e ≡ true → maker e ≡ number) h
+
+-- If only a relay edits its share, the batches of the share are the steps between the libraries that the relay read,
+-- from the empty one.
+abbrev pub SharesMakeSteps : Type 0
+SharesMakeSteps =
+    (host : List ℕ) (rounds : ℕ) (p : Point) (taken : Option (List ℕ)) (k : Pass) (h : List Entry) → (r : LeavesSteps host rounds p taken k)
+    → entries_of maker k.number h ≡ entries_of maker k.number k.seen → EditsAlone k.number h → batches h ≡ steps_between [] (relay_of (listings_in r.stage))
 
 -- If only a relay edits its share, the share's library is at each length of its history one that the relay read, or
 -- the empty one. At a later length it is that one, or one that the relay read later.

@@ -1,6 +1,6 @@
 //! Theorems about all relays. Each function has an empty body; its contract is the theorem.
 
-ghost use Rattle.relay_share.specs.Laws.{LibrariesAreTheShares, RelaysLeaveSteps, RelaysMakeSteps, RelaysShowWhatTheyRead, StoppedRelaysSawAStop, StopsComeLast};
+ghost use Rattle.relay_share.specs.Laws.{LibrariesAreTheShares, RelaysLeaveSteps, RelaysMakeSteps, RelaysShowWhatTheyRead, SharesMakeSteps, StoppedRelaysSawAStop, StopsComeLast};
 
 /// The entries of a relay's handle are the steps between the libraries that its listings left.
 pub fn relays_make_steps()
@@ -20,6 +20,11 @@ pub fn relays_leave_steps()
 /// A relay that ended `Stopped` saw a stop that another handle made.
 pub fn stopped_relays_saw_a_stop()
     ensures { StoppedRelaysSawAStop }
+{}
+
+/// If only the relay edits its share, the share's batches are these steps.
+pub fn shares_make_steps()
+    ensures { SharesMakeSteps }
 {}
 
 /// If only the relay edits its share, the share's library is at each history length one that the relay read, or the

@@ -18,11 +18,11 @@ ghost use Rattle.relay_share.specs.Steps.{IsListed, IsUnread, IsUntaken, Stands,
 
 use crate::report::{RelayEnd, Relayed, end_of, ending_of};
 use crate::turns::{OwnShare, edit};
-use daap_outside::Link;
 use dmap_tags::Tag;
 use item_model::{Look, Meta, Range, Target};
 use mirror_client::{FollowError, Follower};
 use mirror_core::{MirrorError, ToldRef, told_by};
+use outside_net::Link;
 use relayed_rows::{Change, Relay, Untaken};
 use share_core::Share;
 use share_lock::Pass;

@@ -13,13 +13,13 @@ use Rattle.relayed_rows.proofs.LibraryFacts.{nothing_is_library}
 use Rattle.relayed_rows.proofs.DifferenceFacts.{differences_apply, differences_tell}
 
 -- after the first of some steps the library is one of those that they lead through, and the other steps lead on from it
-record Reaches (es : List Edit) (libraries : List Library) (bs cs : List (List Edit)) : Type 0 where
-  passed : List Library
-  ahead : List Library
-  are : library es ∷ libraries ≡ passed ++ library (es ++ edits bs) ∷ ahead
-  left : cs ≡ steps_between (library (es ++ edits bs)) ahead
-  is : IsLibrary (library (es ++ edits bs))
-  libraries_ahead : AllByRecursion IsLibrary ahead
+pub record Reaches (es : List Edit) (libraries : List Library) (bs cs : List (List Edit)) : Type 0 where
+  pub passed : List Library
+  pub ahead : List Library
+  pub are : library es ∷ libraries ≡ passed ++ library (es ++ edits bs) ∷ ahead
+  pub left : cs ≡ steps_between (library (es ++ edits bs)) ahead
+  pub is : IsLibrary (library (es ++ edits bs))
+  pub libraries_ahead : AllByRecursion IsLibrary ahead
 
 -- no step
 reaches_here : (es : List Edit) (libraries : List Library) (cs : List (List Edit)) → IsLibrary (library es) → AllByRecursion IsLibrary libraries
@@ -68,7 +68,7 @@ first_batch b d bs ds h = cc
 other_batches : (b d : List Edit) (bs ds : List (List Edit)) → b ∷ bs ≡ d ∷ ds → bs ≡ ds
 other_batches b d bs ds h = cc
 
-reaches : (es : List Edit) (libraries : List Library) (bs cs : List (List Edit)) → IsLibrary (library es) → AllByRecursion IsLibrary libraries
+pub reaches : (es : List Edit) (libraries : List Library) (bs cs : List (List Edit)) → IsLibrary (library es) → AllByRecursion IsLibrary libraries
     → bs ++ cs ≡ steps_between (library es) libraries → Reaches es libraries bs cs
 reaches es [] [] cs is all h = reaches_here es [] cs is all h
 reaches es [] (b ∷ bs) cs is all h = absurd (cc)

@@ -4,8 +4,8 @@ use Rattle.std.proofs.Math.Seq.{take-append-add}
 use Rattle.std.proofs.KnownBytes.{Appends-trans}
 use Rattle.std.specs.Io.KnownBytes.{Appends}
 use Rattle.std.specs.Prelude.{take, OnErr}
-use Rattle.daap_outside.specs.Told.{AppendsPrefix}
-use Rattle.daap_outside.specs.Faults.{Failed}
+use Rattle.outside_net.specs.Told.{AppendsPrefix}
+use Rattle.outside_net.specs.Faults.{Failed}
 
 -- the sink takes the first bytes and a prefix of the second
 pub cut_behind : (a b : List ℕ) (t0 t1 t2 : Option (List ℕ)) → Appends t0 t1 a → AppendsPrefix t1 t2 b → AppendsPrefix t0 t2 (a ++ b)

@@ -1,2 +1,3 @@
 pub mod ReplyBytes
+pub mod Taking
 pub mod Laws

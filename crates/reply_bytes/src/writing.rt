@@ -1,17 +1,16 @@
 //! Writing replies.
 
 ghost use Rattle.std.specs.Prelude.{◌≡◌, ◌++◌, Err, OnOk, OnErr};
-ghost use Rattle.std.specs.Io.KnownBytes.{Appends};
-ghost use Rattle.daap_outside.specs.Counts.{CountsFaults, Rose};
-ghost use Rattle.daap_outside.specs.Told.{AppendsPrefix};
+ghost use Rattle.outside_net.specs.Counts.{CountsFaults, Rose};
 ghost use Rattle.http_front.specs.ReplyHeads.{HasReason};
 ghost use Rattle.listing_plan.specs.Plans.{IsWritable, plan_bytes};
 ghost use Rattle.reply_bytes.specs.ReplyBytes.{with_head, status_of, failure_bytes, refusal_bytes};
+ghost use Rattle.reply_bytes.specs.Taking.{TakesAll, TakesPrefix};
 
-use daap_outside::{Failed, Sink, put_all};
 use http_front::{failure_head, reply_head};
 use http_heads::HeadError;
 use listing_plan::Plan;
+use outside_net::{Failed, Sink, put_all};
 use share_asks::BodyForm;
 use std::alloc::{AllocError, Global};
 use thiserror::Error;
@@ -59,8 +58,10 @@ pub fn write_reply<W: Sink>(
 ) -> Result<(), ReplyError>
     requires reason { HasReason status }
     requires writable { IsWritable body.now }
-    ensures written { OnOk result (Appends (W.taken sink.old) (W.taken sink.new) (with_head status form (plan_bytes body.now) last)) }
-    ensures part { result ≡ Err ReplyError.Failed → AppendsPrefix (W.taken sink.old) (W.taken sink.new) (with_head status form (plan_bytes body.now) last) }
+    ensures written { OnOk result (TakesAll W.Sink sink.old sink.new
+        (with_head status form (plan_bytes body.now) last)) }
+    ensures part { result ≡ Err ReplyError.Failed → TakesPrefix W.Sink sink.old sink.new
+        (with_head status form (plan_bytes body.now) last) }
     ensures unchanged { result ≡ Err ReplyError.Memory → sink.new ≡ sink.old }
     ensures count { OnOk result (W.faults sink.new ≡ W.faults sink.old) }
     ensures failed { result ≡ Err ReplyError.Failed → Rose (W.faults sink.old) (W.faults sink.new) }
@@ -76,8 +77,8 @@ pub fn write_reply<W: Sink>(
 /// Writes the reply to a request whose answer could not be allocated. Does not allocate.
 /// Returns `Failed` if the sink fails.
 pub fn write_failure<W: Sink>(last: bool, sink: &mut W) -> Result<(), Failed>
-    ensures written { OnOk result (Appends (W.taken sink.old) (W.taken sink.new) (failure_bytes last)) }
-    ensures part { OnErr result (AppendsPrefix (W.taken sink.old) (W.taken sink.new) (failure_bytes last)) }
+    ensures written { OnOk result (TakesAll W.Sink sink.old sink.new (failure_bytes last)) }
+    ensures part { OnErr result (TakesPrefix W.Sink sink.old sink.new (failure_bytes last)) }
     ensures count { CountsFaults (W.faults sink.old) (W.faults sink.new) result }
     ensures beside { W.beside_taken sink.new ≡ W.beside_taken sink.old }
 {
@@ -91,8 +92,9 @@ pub fn write_refusal<W: Sink>(
     error: &HeadError,
     sink: &mut W,
 ) -> Result<(), ReplyError>
-    ensures written { OnOk result (Appends (W.taken sink.old) (W.taken sink.new) (refusal_bytes error.now)) }
-    ensures part { result ≡ Err ReplyError.Failed → AppendsPrefix (W.taken sink.old) (W.taken sink.new) (refusal_bytes error.now) }
+    ensures written { OnOk result (TakesAll W.Sink sink.old sink.new (refusal_bytes error.now)) }
+    ensures part { result ≡ Err ReplyError.Failed
+        → TakesPrefix W.Sink sink.old sink.new (refusal_bytes error.now) }
     ensures unchanged { result ≡ Err ReplyError.Memory → sink.new ≡ sink.old }
     ensures count { OnOk result (W.faults sink.new ≡ W.faults sink.old) }
     ensures failed { result ≡ Err ReplyError.Failed → Rose (W.faults sink.old) (W.faults sink.new) }
@@ -124,8 +126,10 @@ pub fn status_of(error: &HeadError) -> u16
 // Writes the two parts of a reply, one after the other.
 fn write_both<W: Sink>(head: &[u8], body: &Plan, sink: &mut W) -> Result<(), Failed>
     requires { IsWritable body.now }
-    ensures written { OnOk result (Appends (W.taken sink.old) (W.taken sink.new) (head.now ++ plan_bytes body.now)) }
-    ensures part { OnErr result (AppendsPrefix (W.taken sink.old) (W.taken sink.new) (head.now ++ plan_bytes body.now)) }
+    ensures written { OnOk result (TakesAll W.Sink sink.old sink.new
+        (head.now ++ plan_bytes body.now)) }
+    ensures part { OnErr result (TakesPrefix W.Sink sink.old sink.new
+        (head.now ++ plan_bytes body.now)) }
     ensures count { CountsFaults (W.faults sink.old) (W.faults sink.new) result }
     ensures beside { W.beside_taken sink.new ≡ W.beside_taken sink.old }
 {

@@ -4,8 +4,8 @@ use Rattle.std.proofs.lemmas.Bool.{false≢true}
 use Rattle.std.specs.Prelude.{nat_eq}
 use Rattle.item_model.specs.declared.changes.Edit.{Edit}
 use Rattle.item_model.specs.declared.changes.Entry.{Entry}
-use Rattle.daap_outside.specs.Counts.{Rose}
-use Rattle.daap_outside.specs.Places.{Contents}
+use Rattle.outside_net.specs.Counts.{Rose}
+use Rattle.outside_net.specs.Places.{Contents}
 use Rattle.share_history.specs.Histories.{batches, edits, revision}
 use Rattle.share_history.specs.Limits.{has_few_lists}
 use Rattle.share_history.specs.Numbers.{most_edits}
@@ -38,7 +38,7 @@ use Rattle.serve_command.specs.declared.terms.Serving.{Serving}
 use Rattle.share_crew.specs.declared.verdict.Verdict.{Verdict}
 use Rattle.share_crew.specs.declared.verdict.Verdict.TheVariants.{Done, NetworkFailed, FileFailed, OutOfMemory, Exhausted}
 use Rattle.share_crew.specs.Lines.{ended_line}
-use Rattle.share_crew.specs.Doors.{CountsShut}
+use Rattle.share_crew.specs.Listeners.{CountsShut}
 use Rattle.share_crew.specs.Stints.{Stint}
 use Rattle.share_crew.specs.Verdicts.{end_number, has_end, verdict_of, verdict_status, with_memory}
 use Rattle.share_crew.proofs.Numbers.{contains_head, contains_tail}

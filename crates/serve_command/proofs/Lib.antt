@@ -10,3 +10,4 @@ pub mod Whole
 pub mod Idle
 pub mod Deciding
 pub mod Filing
+pub mod Keeping

@@ -4,8 +4,8 @@ use Rattle.std.proofs.lemmas.List.{map-append}
 use Rattle.std.proofs.lemmas.List.Elements.{recursion_from_All}
 use Rattle.std.specs.List.{AllByRecursion, AllZip}
 use Rattle.std.specs.Prelude.{All, nat_eq, replicate}
-use Rattle.daap_outside.specs.Counts.{Rose}
-use Rattle.daap_outside.specs.Places.{Returned}
+use Rattle.outside_net.specs.Counts.{Rose}
+use Rattle.outside_net.specs.Places.{Returned}
 use Rattle.item_model.specs.declared.changes.Edit.{Edit}
 use Rattle.item_model.specs.declared.changes.Entry.{Entry}
 use Rattle.share_asks.specs.declared.ask.Role.TheVariants as role
@@ -29,7 +29,7 @@ use Rattle.share_crew.proofs.Players.{ArePlayers}
 use Rattle.serve_command.proofs.Editing.{editor_keeps}
 
 -- what precedes the last of a list
-init_same : {A : Type 0} (xs ys : List A) (x y : A) → xs ++ x ∷ [] ≡ ys ++ y ∷ [] → xs ≡ ys
+pub init_same : {A : Type 0} (xs ys : List A) (x y : A) → xs ++ x ∷ [] ≡ ys ++ y ∷ [] → xs ≡ ys
 init_same [] [] x y is = refl
 init_same [] (b ∷ ys) x y is = absurd (let count = ap length is in let more = length-append ys (y ∷ []) in omega (arith, count, more))
 init_same (a ∷ xs) [] x y is = absurd (let count = ap length is in let more = length-append xs (x ∷ []) in omega (arith, count, more))
@@ -50,7 +50,7 @@ or_none false = refl
 
 module _ {settings : Settings} {opened : List Entry} where
   -- an edit was lost if the last worker lost one
-  last_lost : (players : List (Stint settings opened)) (editor : Stint settings opened) → AllByRecursion (λ s. is_worker_loss s.end ≡ false) players
+  pub last_lost : (players : List (Stint settings opened)) (editor : Stint settings opened) → AllByRecursion (λ s. is_worker_loss s.end ≡ false) players
       → has_end worker.FileFault (map (λ (s : Stint settings opened). s.end) (players ++ editor ∷ [])) ≡ is_worker_loss editor.end
   last_lost [] editor none = or_none (nat_eq (end_number editor.end) 6) ∙ loss_is editor.end
   last_lost (s ∷ players) editor none =

@@ -2,12 +2,12 @@
 use Rattle.std.proofs.Common.{◌≡◌, ◌+◌, ℕ, List, ◌++◌, length, map, take, drop, Option, None, Some, Err, refl, sym, subst, ap, ◌∙◌, inl, inr, length-append}
 use Rattle.std.proofs.lemmas.List.{map-append}
 use Rattle.std.proofs.Math.Seq.{take-add}
-use Rattle.daap_outside.specs.NetCounts.{CountsNetFaults}
-use Rattle.daap_outside.specs.Places.{OpensDoors}
-use Rattle.daap_outside.specs.declared.net.NetError.{NetError}
-use Rattle.daap_outside.specs.declared.net.NetError.TheVariants as nets
+use Rattle.outside_net.specs.NetCounts.{CountsNetFaults}
+use Rattle.outside_net.specs.Places.{OpensListeners}
+use Rattle.outside_net.specs.declared.net.NetError.{NetError}
+use Rattle.outside_net.specs.declared.net.NetError.TheVariants as nets
 use Rattle.serve_command.specs.Faults.{net_fault}
-use Rattle.share_crew.specs.Doors.{HaveLinks}
+use Rattle.share_crew.specs.Listeners.{HaveLinks}
 use Rattle.serve_command.specs.Places.{StopsOpening}
 
 -- an address that was not opened
@@ -20,10 +20,10 @@ stops_behind T before mid after e is count = stops_opening T before after e (sub
 
 -- the listeners of the two addresses, in order, have the first connections
 pub have_links : {D : Type 0} (coming : D → Option (List (List ℕ))) (before mid after : Option (List (List (List ℕ)))) (listen edit : List D)
-    → OpensDoors before mid (map coming listen) → OpensDoors mid after (map coming edit) → HaveLinks before (map coming (listen ++ edit))
+    → OpensListeners before mid (map coming listen) → OpensListeners mid after (map coming edit) → HaveLinks before (map coming (listen ++ edit))
 have_links coming None mid after listen edit first second = tt
 have_links coming (Some links) mid after listen edit first second =
-    let second' : OpensDoors (Some (drop (length (map coming listen)) links)) after (map coming edit) = subst (λ m. OpensDoors m after (map coming edit)) first.1 second in
+    let second' : OpensListeners (Some (drop (length (map coming listen)) links)) after (map coming edit) = subst (λ m. OpensListeners m after (map coming edit)) first.1 second in
     let m = length (map coming listen) in
     let n = length (map coming edit) in
     let both : map coming (listen ++ edit) ≡ map coming listen ++ map coming edit = map-append coming listen edit in

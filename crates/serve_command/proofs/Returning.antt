@@ -3,9 +3,9 @@ use Rattle.std.proofs.Common.{◌≡◌, ℕ, List, [], ◌∷◌, ◌++◌, Boo
 use Rattle.std.proofs.lemmas.List.{get_or_append_left}
 use Rattle.std.specs.Prelude.{All, OnOk}
 use Rattle.share_lock.proofs.Fronts.{all_rest}
-use Rattle.daap_outside.specs.Counts.{RisesWith, Rose}
-use Rattle.daap_outside.specs.Places.{Contents}
-use Rattle.daap_outside.specs.Told.{Grows}
+use Rattle.outside_net.specs.Counts.{RisesWith, Rose}
+use Rattle.outside_net.specs.Places.{Contents}
+use Rattle.outside_net.specs.Told.{Grows}
 use Rattle.kept_library.specs.Closing.{LeavesAt, LeavesOrOneMore}
 use Rattle.share_workers.specs.Keepers.{KeepsBut}
 use Rattle.item_model.specs.declared.changes.Edit.{Edit}

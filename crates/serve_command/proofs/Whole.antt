@@ -2,8 +2,8 @@
 use Rattle.std.proofs.Common.{◌≡◌, ◌+◌, ℕ, Bool, List, [], ◌++◌, length, map, Option, Some, sym, subst, ap, ◌∙◌, append-nil}
 use Rattle.std.proofs.lemmas.List.{length-map}
 use Rattle.std.proofs.lemmas.Simd.{splat_is_map}
-use Rattle.daap_outside.specs.Told.{Grows}
-use Rattle.daap_outside.specs.Places.{Returned}
+use Rattle.outside_net.specs.Told.{Grows}
+use Rattle.outside_net.specs.Places.{Returned}
 use Rattle.item_model.specs.declared.changes.Entry.{Entry}
 use Rattle.share_asks.specs.declared.ask.Role.{Role}
 use Rattle.share_asks.specs.declared.ask.Role.TheVariants as role
@@ -19,7 +19,7 @@ use Rattle.serve_command.specs.Terms.{settings_of, places_of, workers_of, roles_
 use Rattle.share_crew.specs.Lines.{ended_line}
 use Rattle.share_workers.specs.declared.worker.WorkerEnd.TheVariants.{FileFault}
 use Rattle.share_crew.specs.Verdicts.{has_end, verdict_of}
-use Rattle.share_crew.specs.Doors.{CountsShut, HaveLinks}
+use Rattle.share_crew.specs.Listeners.{CountsShut, HaveLinks}
 use Rattle.share_crew.specs.Gathered.{HasGathered}
 use Rattle.serve_command.specs.Places.{HasOpened}
 use Rattle.share_crew.specs.Stints.{Stint, IsHistoryOf, passes_in}
@@ -58,7 +58,7 @@ has_served serving opened kept front start mid now before first after left comin
   roles = g.roles_are ∙ (roles_is ∙ roles_are serving listen edit opens.listening opens.editing);
   links = links_is ∙ g.links_are;
   one = one;
-  to_come = subst (HaveLinks start.door_links) (sym (g.coming_are ∙ come_is)) opens.links;
+  to_come = subst (HaveLinks start.listener_links) (sym (g.coming_are ∙ come_is)) opens.links;
   asked = subst (λ a. Grows start.asked a (places_of serving)) (sym asked) opens.asked.asked;
   written = g.written_grows opens.asked.written;
   counts = subst (λ n. CountsShut n now.faults (map (λ stint. stint.end) g.crew)) opens.faultless g.counts;

@@ -2,8 +2,8 @@
 -- are refused, and a batch that leaves too many lists.
 use Rattle.std.specs.Prelude.{◌≢◌, ◌<◌, ◌++◌, ◌∷◌, [], ℕ, List, length, codes}
 use Rattle.records_import.specs.declared.refusal.RecordError.TheVariants as records
-use Rattle.daap_outside.specs.declared.net.NetError.{NetError}
-use Rattle.daap_outside.specs.declared.net.NetError.TheVariants as nets
+use Rattle.outside_net.specs.declared.net.NetError.{NetError}
+use Rattle.outside_net.specs.declared.net.NetError.TheVariants as nets
 use Rattle.fault_lines.specs.Records.{records_line}
 use Rattle.share_core.specs.declared.share.OpenError.{OpenError}
 use Rattle.share_core.specs.declared.share.OpenError.TheVariants as opens

@@ -2,9 +2,10 @@
 use Rattle.std.specs.Prelude.{◌≡◌, ℕ, List, ◌∷◌, [], ◌++◌, Bool, true, false, MatchBool, Option, Some, None}
 use Rattle.item_model.specs.declared.changes.Edit.{Edit}
 use Rattle.item_model.specs.declared.changes.Entry.{Entry}
-use Rattle.daap_outside.specs.Counts.{Rose}
-use Rattle.daap_outside.specs.Places.{Contents}
-use Rattle.daap_outside.specs.Told.{Grows}
+use Rattle.outside_net.specs.Counts.{Rose}
+use Rattle.outside_net.specs.Places.{Contents}
+use Rattle.outside_net.specs.Told.{Grows}
+use Rattle.edit_keeping.specs.declared.keeps.Keeps as keeper
 use Rattle.share_history.specs.Histories.{batches, opening}
 use Rattle.share_history.specs.Limits.{has_few_lists}
 use Rattle.share_core.specs.Opened.{opened_with, if_filled}
@@ -36,8 +37,14 @@ abbrev pub AreKept : Option (List ℕ) → FilesSeen → FilesSeen → List Entr
 AreKept None before after history lost = (after ≡ before) × (lost ≡ false)
 AreKept (Some path) before after history lost = IsKept path before after history lost
 
--- what a keeper keeps of a history whose opening it had, if one worker made all later edits
+-- what a keeper keeps of a history whose opening it had, if one worker made all later edits; by what it keeps, whether it
+-- has lost an edit, and its error counter
 pub record HasKept (editors : ℕ) (keeps keeps' : List (List Edit) → Type 0) (is_lost' : Bool) (faults faults' : ℕ) (opened history : List Entry) (lost : Bool) : Type 0 where
   pub is_lost : is_lost' ≡ lost
   pub counts : MatchBool lost (Rose faults faults') (faults' ≡ faults)
   pub kept : editors ≡ 1 → keeps (batches opened) → KeepsBut lost keeps' (batches history)
+
+-- .. of the keeper before and after
+abbrev pub KeepsHistory : {K R : Type 0} → keeper.Ghosts K R → (editors : ℕ) → (old new : K) → (opened history : List Entry) → (lost : Bool) → Type 0
+KeepsHistory g editors old new opened history lost =
+    HasKept editors (g.keeps old) (g.keeps new) (g.is_lost new) (g.faults old) (g.faults new) opened history lost

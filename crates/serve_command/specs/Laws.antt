@@ -1,20 +1,21 @@
 -- What follows from how runs of `serve` end.
-use Rattle.std.specs.Prelude.{◌≡◌, ◌⊎◌, ◌≤◌, ℕ, List, [], ◌++◌, length, true, Contains, Option, Some, None}
+use Rattle.std.specs.Prelude.{◌≡◌, ◌⊎◌, ◌≤◌, ℕ, List, [], ◌∷◌, ◌++◌, length, true, Contains, Option, Some, None}
 use Rattle.item_model.specs.declared.changes.Edit.{Edit}
 use Rattle.item_model.specs.declared.changes.Entry.{Entry}
-use Rattle.daap_outside.specs.Counts.{Rose}
-use Rattle.daap_outside.specs.Places.{Contents}
+use Rattle.outside_net.specs.Counts.{Rose}
+use Rattle.outside_net.specs.Places.{Contents}
 use Rattle.share_history.specs.Histories.{batches, edits}
 use Rattle.share_history.specs.Limits.{has_few_lists}
 use Rattle.share_history.specs.Numbers.{most_edits}
 use Rattle.share_core.specs.Opened.{if_filled, LeaveFewLists}
 use Rattle.share_server.specs.declared.report.LinkReport.{LinkReport}
+use Rattle.share_server.specs.Served.{added_entries}
 use Rattle.share_workers.specs.Works.{all_served}
 use Rattle.edit_file.specs.Standing.{FileStands}
 use Rattle.kept_library.specs.Closing.{LeavesAt}
 use Rattle.kept_library.specs.Opening.{bytes_at}
 use Rattle.command_core.specs.Seen.{Told}
-use Rattle.command_core.specs.ReadRecords.{ReadsAs}
+use Rattle.command_core.specs.ReadRecords.{HasReadAs, ReadsAs}
 use Rattle.serve_command.specs.declared.terms.Serving.{Serving}
 use Rattle.serve_command.specs.Runs.{Left, ServeEnds}
 
@@ -62,3 +63,47 @@ SuccessLeavesTheFile = (serving : Serving) (path : List ℕ) (told : Told) (left
 -- the status of a failed file call comes only if the error counter of the files rose
 abbrev pub FileFaultsAreCounted : Type 0
 FileFaultsAreCounted = (serving : Serving) (told : Told) (left : Left) → ServeEnds serving told left → left.status ≡ 10 → Rose told.before.around.files.faults told.after.around.files.faults
+
+-- ---- what a file has after a run, however it ended
+
+-- the contents are known, and the bytes under the name represent the batches
+pub record HasUnder (path : List ℕ) (contents : Option Contents) (bs : List (List Edit)) : Type 0 where
+  pub told : Contents
+  pub is : contents ≡ Some told
+  pub stands : FileStands (bytes_at told path) bs
+
+-- the batches that replies on these connections acknowledged, in order
+abbrev pub acknowledged : List Entry → List LinkReport → List (List Edit)
+acknowledged history reports = batches (added_entries history (all_served reports))
+
+-- the batches are the input's, and then those that the worker of the editors acknowledged; and perhaps one more, only if
+-- the error counter of the files rose. The history has those that stood before, the same, and perhaps one that was lost
+pub record HasAcknowledged (told : Told) (stood : List (List Edit)) (history : List Entry) (links : List (List LinkReport)) (bs : List (List Edit)) : Type 0 where
+  pub edits : List Edit
+  pub read : HasReadAs edits told.before.input told.after.input
+  pub players : List (List LinkReport)
+  pub editor : List LinkReport
+  pub links_are : links ≡ players ++ editor ∷ []
+  pub last : List (List Edit)
+  pub are : bs ≡ if_filled edits ++ (acknowledged history editor ++ last)
+  pub few : length last ≤ 1
+  pub faultless : (last ≡ []) ⊎ Rose told.before.around.files.faults told.after.around.files.faults
+  pub lost : List (List Edit)
+  pub few_lost : length lost ≤ 1
+  pub made : batches history ≡ stood ++ (if_filled edits ++ (acknowledged history editor ++ lost))
+
+-- the file represents the batches that it represented, and then more: those of the share, if it was put under its lock;
+-- else none, or the input's
+pub record KeepsAll (path : List ℕ) (told : Told) (left : Left) (stood : List (List Edit)) : Type 0 where
+  pub more : List (List Edit)
+  pub under : HasUnder path told.after.around.files.contents (stood ++ more)
+  pub unserved : left.history ≡ None → (more ≡ []) ⊎ ((edits : List Edit) × HasReadAs edits told.before.input told.after.input × (more ≡ if_filled edits))
+  pub served : (history : List Entry) → left.history ≡ Some history → HasAcknowledged told stood history left.links more
+
+-- However a run ends, nothing is lost that its file had before, or that a reply acknowledged. A share with a file has one
+-- editor.
+abbrev pub AcknowledgedBatchesStay : Type 0
+AcknowledgedBatchesStay =
+    (serving : Serving) (path : List ℕ) (told : Told) (left : Left) (contents : Contents) (stood : List (List Edit)) → ServeEnds serving told left
+    → serving.file ≡ Some path → serving.editors ≡ 1 → told.before.around.files.contents ≡ Some contents → FileStands (bytes_at contents path) stood
+    → KeepsAll path told left stood

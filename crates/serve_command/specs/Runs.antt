@@ -3,7 +3,7 @@ use Rattle.std.specs.Prelude.{◌≡◌, ◌⊎◌, ℕ, List, [], ◌∷◌, �
 use Rattle.std.specs.List.{flat_map, AllByRecursion}
 use Rattle.item_model.specs.declared.changes.Edit.{Edit}
 use Rattle.item_model.specs.declared.changes.Entry.{Entry}
-use Rattle.daap_outside.specs.Told.{Grows}
+use Rattle.outside_net.specs.Told.{Grows}
 use Rattle.share_history.specs.Histories.{batches, revision}
 use Rattle.share_history.specs.Whole as histories
 use Rattle.share_server.specs.declared.report.LinkReport.{LinkReport}
@@ -28,7 +28,7 @@ use Rattle.serve_command.specs.Lines.{serving_line}
 use Rattle.serve_command.specs.Faults.{serve_line, serve_status, StopsServing}
 use Rattle.serve_command.specs.Files.{AreKept, IsOpening}
 use Rattle.share_crew.specs.Verdicts.{has_end, verdict_of, verdict_line, verdict_status, with_memory}
-use Rattle.share_crew.specs.Doors.{CountsShut, HaveLinks}
+use Rattle.share_crew.specs.Listeners.{CountsShut, HaveLinks}
 use Rattle.serve_command.specs.Places.{HasAsked, FailsToOpen}
 use Rattle.share_crew.specs.Stints.{Stint, IsHistoryOf, IsWhole, returns_of}
 
@@ -62,7 +62,7 @@ pub data NotBegun (serving : Serving) (before after : InputSeen) (files files' :
       → NotBegun serving before after files files' output output' status
   -- the file was refused, or the batches of both
   unkept : (edits : List Edit) (path : List ℕ) (stop : Fault FileFault) → HasReadAs edits before after → serving.file ≡ Some path → StopsOpening files.contents path edits stop
-      → LeavesRefused files.contents files'.contents path stop → CountsFault files.faults files'.faults stop → Grows files.asked files'.asked (path ∷ []) → TellsFault file_line file_status stop output output' status
+      → LeavesRefused files.contents files'.contents path edits stop → CountsFault files.faults files'.faults stop → Grows files.asked files'.asked (path ∷ []) → TellsFault file_line file_status stop output output' status
       → NotBegun serving before after files files' output output' status
   unannounced : (edits : List Edit) (opened : List Entry) → HasReadAs edits before after → IsOpening serving.file files.contents edits opened → AreKept serving.file files files' opened false
       → NotAnnounced (first_line serving opened) output output' status → NotBegun serving before after files files' output output' status
@@ -87,7 +87,7 @@ pub record HasServed (serving : Serving) (opened : List Entry) (kept : List Entr
   -- each saw a prefix of the history, and added the entries of its number
   pub one : IsHistoryOf (workers_of serving) history crew []
   -- each worker had a listener, which was closed
-  pub to_come : HaveLinks net.door_links (map (λ stint. stint.to_come) crew)
+  pub to_come : HaveLinks net.listener_links (map (λ stint. stint.to_come) crew)
   pub asked : Grows net.asked net'.asked (places_of serving)
   pub written : Grows net.written net'.written (flat_map returns_of crew)
   pub counts : CountsShut net.faults net'.faults (map (λ stint. stint.end) crew)

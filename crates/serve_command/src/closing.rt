@@ -1,7 +1,7 @@
 //! Writes the lines after the last connection, and returns the status.
 
 ghost use Rattle.std.specs.Prelude.{◌<◌, ◌^◌, ◌++◌, MatchResult};
-ghost use Rattle.command_core.specs.Seen.{output_seen};
+ghost use Rattle.command_core.specs.Seen.{output_of};
 ghost use Rattle.command_core.specs.Answers.{Tells};
 ghost use Rattle.share_history.specs.Histories.{batches, revision};
 ghost use Rattle.share_crew.specs.Outcomes.{LeavesShare};
@@ -9,7 +9,7 @@ ghost use Rattle.share_crew.specs.Lines.{ended_line, links_in, requests_in};
 ghost use Rattle.share_crew.specs.Verdicts.{verdict_line, verdict_status, with_memory};
 ghost use Rattle.serve_command.specs.Runs.{TellsEnd};
 
-use daap_outside::{Sink, put_all};
+use outside_net::{Sink, put_all};
 use share_core::Share;
 use share_crew::{LinkReports, Outcome, Verdict, ended_line_of};
 use std::alloc::{AllocError, Global};
@@ -26,8 +26,8 @@ pub(crate) fn finish<W: Sink>(
     requires requests { requests_in links < 2 ^ 64 }
     ensures left { LeavesShare share.history links result }
     ensures told { TellsEnd (ended_line (revision (batches share.history)) links) verdict
-        (output_seen (W.taken output.old) (W.faults output.old))
-        (output_seen (W.taken output.new) (W.faults output.new))
+        (output_of W.Sink output.old)
+        (output_of W.Sink output.new)
         result.status }
 {
     let line = ended_line_of(alloc, share.revision(), links.as_slice());
@@ -39,12 +39,12 @@ pub(crate) fn finish<W: Sink>(
 fn write_end<W: Sink>(output: &mut W, line: Result<Vec<u8>, AllocError>, verdict: Verdict) -> u8
     ensures { MatchResult line
         (λ bytes. Tells (verdict_status verdict) (bytes.items ++ verdict_line verdict)
-        (output_seen (W.taken output.old) (W.faults output.old))
-        (output_seen (W.taken output.new) (W.faults output.new))
+        (output_of W.Sink output.old)
+        (output_of W.Sink output.new)
         result)
         (λ _. Tells (verdict_status (with_memory verdict)) (verdict_line (with_memory verdict))
-        (output_seen (W.taken output.old) (W.faults output.old))
-        (output_seen (W.taken output.new) (W.faults output.new))
+        (output_of W.Sink output.old)
+        (output_of W.Sink output.new)
         result) }
 {
     match line {
@@ -59,8 +59,8 @@ fn write_end<W: Sink>(output: &mut W, line: Result<Vec<u8>, AllocError>, verdict
 // Writes the line of a verdict. Returns the status.
 fn write_verdict<W: Sink>(output: &mut W, verdict: Verdict) -> u8
     ensures { Tells (verdict_status verdict) (verdict_line verdict)
-        (output_seen (W.taken output.old) (W.faults output.old))
-        (output_seen (W.taken output.new) (W.faults output.new))
+        (output_of W.Sink output.old)
+        (output_of W.Sink output.new)
         result }
 {
     match put_all(output, verdict.line()) {

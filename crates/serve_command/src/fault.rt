@@ -4,8 +4,8 @@ ghost use Rattle.std.specs.Prelude.{◌≡◌};
 ghost use Rattle.serve_command.specs.Faults.{serve_line, serve_status, net_fault, input_fault, open_fault};
 
 use command_core::{Fault, InputFault, Refusal};
-use daap_outside::NetError;
 use fault_lines::records_line;
+use outside_net::NetError;
 use records_import::RecordError;
 use share_core::OpenError;
 use std::alloc::{AllocError, Global};

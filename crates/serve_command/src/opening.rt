@@ -1,9 +1,8 @@
 //! Writes the first line of a share, and puts the share under its lock.
 
 ghost use Rattle.std.specs.Prelude.{◌≡◌, All, IfOk, MatchResult};
-ghost use Rattle.command_core.specs.Seen.{output_seen};
+ghost use Rattle.command_core.specs.Seen.{output_of};
 ghost use Rattle.share_replies.specs.Laws.{maker};
-ghost use Rattle.share_history.specs.Histories.{batches, revision};
 ghost use Rattle.share_crew.specs.Begun.{HasRoom};
 ghost use Rattle.serve_command.specs.Begun.{HasBegun};
 ghost use Rattle.serve_command.specs.Lines.{serving_line};
@@ -12,8 +11,8 @@ ghost use Rattle.serve_command.specs.Terms.{MayServe, settings_of, workers_of};
 
 use crate::terms::Serving;
 use command_core::out_of_memory;
-use daap_outside::Sink;
 use fault_lines::push_number;
+use outside_net::Sink;
 use share_core::Share;
 use share_crew::{LockedShare, WorkerBuffers, announced};
 use std::alloc::{AllocError, Global};
@@ -35,11 +34,11 @@ pub(crate) fn begin<W: Sink, D: Drop>(
     requires settings { share.settings ≡ settings_of serving.now }
     ensures { MatchResult result
         (HasBegun serving.now share.history
-        (output_seen (W.taken output.old) (W.faults output.old))
-        (output_seen (W.taken output.new) (W.faults output.new)))
+        (output_of W.Sink output.old)
+        (output_of W.Sink output.new))
         (NotAnnounced (first_line serving.now share.history)
-        (output_seen (W.taken output.old) (W.faults output.old))
-        (output_seen (W.taken output.new) (W.faults output.new))) }
+        (output_of W.Sink output.old)
+        (output_of W.Sink output.new)) }
 {
     let passes = serving.workers + serving.editors + 1;
     match prepare(alloc, serving, &share) {
@@ -55,7 +54,7 @@ fn prepare<D: Drop>(
     share: &Share,
 ) -> Result<(Vec<u8>, WorkerBuffers<D>), AllocError>
     requires { MayServe serving.now }
-    ensures line { IfOk result (λ r. r.0.items ≡ serving_line serving.now.name (revision (batches share.now.history))) }
+    ensures line { IfOk result (λ r. r.0.items ≡ first_line serving.now share.now.history) }
     ensures room { IfOk result (λ r. HasRoom (workers_of serving.now) r.1) }
 {
     let line = first_line_of(alloc, serving, share.revision())?;

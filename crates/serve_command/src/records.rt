@@ -1,31 +1,31 @@
 //! Serves a share that begins with the batches of its file, if it has one, and then the records of the input.
 
-ghost use Rattle.std.specs.Prelude.{◌≡◌, ◌≤◌, ◌+◌, ◌-◌, None, length, false, All};
+ghost use Rattle.std.specs.Prelude.{◌≡◌, ◌≤◌, ◌-◌, None, length, false, All};
 ghost use Rattle.item_model.specs.Valid.{AreValid};
 ghost use Rattle.records_import.specs.Limits.{most_records};
 ghost use Rattle.records_import.specs.Written.{IsReadable};
-ghost use Rattle.command_core.specs.Seen.{InputSeen, NetSeen, input_seen, files_seen, net_seen, output_seen, seen, told_in};
+ghost use Rattle.command_core.specs.Seen.{InputSeen, NetSeen, files_of, net_of, output_of, seen, told_in};
 ghost use Rattle.command_core.specs.ReadRecords.{HasReadAs};
-ghost use Rattle.edit_file.specs.Files.{HasBatches, disk_of, is_broken, place_of};
+ghost use Rattle.edit_file.specs.Files.{HasBatches, faults_of, is_broken, place_of};
 ghost use Rattle.share_history.specs.Histories.{batches};
 ghost use Rattle.share_replies.specs.Laws.{maker};
 ghost use Rattle.serve_command.specs.KeptFiles.{IsKeptIn};
 ghost use Rattle.serve_command.specs.Outcomes.{left_of};
-ghost use Rattle.serve_command.specs.Places.{HasListeners};
+ghost use Rattle.serve_command.specs.Places.{HasAddresses, MayServeWith, count_of};
 ghost use Rattle.serve_command.specs.Runs.{ServeEnds, ShareEnds};
-ghost use Rattle.serve_command.specs.Terms.{MayServeAt, settings_of};
+ghost use Rattle.serve_command.specs.Terms.{settings_of};
 
 use crate::fault::open_fault;
-use crate::placed::{Placed, PlacedFile};
-use crate::places::Doors;
+use crate::placed::{NamedFile, Placed};
+use crate::places::Listeners;
 use crate::shares::serve_share;
 use crate::terms::Serving;
-use crate::unserved::turned_away;
-use daap_outside::{Disk, Files, Net, Sink};
+use crate::unserved::refuse;
 use edit_file::EditFile;
 use edit_keeping::Unkept;
 use item_model::Batch;
 use kept_library::{KeptLibrary, close_file, open_library};
+use outside_net::{Disk, Files, Net, Sink};
 use share_core::Share;
 use share_crew::Outcome;
 use std::alloc::Global;
@@ -42,31 +42,28 @@ pub(crate) fn serve_records<W: Sink, F: Files, N: Net, R: Threads + Wait + Clock
     output: &mut W,
     files: &mut F,
     net: &mut N,
-    doors: Doors<N::D>,
+    listeners: Listeners<N::D>,
     first: Batch,
 ) -> Outcome
-    requires may { MayServeAt serving.now (length doors.listen.items) (length doors.edit.items) }
+    requires may { MayServeWith serving.now listeners }
     requires valid { AreValid first }
     requires few { length first ≤ most_records }
     requires readable { IsReadable first }
     ensures ends { (before after : InputSeen) (start : NetSeen) → HasReadAs first before after
-        → HasListeners N.D.coming N.D.written N.D.faults serving.now start
-        (net_seen (N.asked net.old) (N.written net.old) (N.door_links net.old) (N.next_input net.old) (N.faults net.old)) doors.listen.items doors.edit.items
+        → HasAddresses N.D.Listener serving.now start (net_of N.Net net.old) listeners
         → ServeEnds serving.now (told_in
-        (seen before (files_seen (F.asked files.old) (F.contents files.old) (F.faults files.old)) start)
-        (seen after
-        (files_seen (F.asked files.new) (F.contents files.new) (F.faults files.new))
-        (net_seen (N.asked net.new) (N.written net.new) (N.door_links net.new) (N.next_input net.new) (N.faults net.new)))
-        (output_seen (W.taken output.old) (W.faults output.old))
-        (output_seen (W.taken output.new) (W.faults output.new)))
+        (seen before (files_of F.Files files.old) start)
+        (seen after (files_of F.Files files.new) (net_of N.Net net.new))
+        (output_of W.Sink output.old)
+        (output_of W.Sink output.new))
         (left_of result) }
     ensures alone { serving.now.file ≡ None → files.new ≡ files.old }
-    ensures closes { N.open_count net.new ≡ N.open_count net.old - (length doors.listen.items + length doors.edit.items) }
+    ensures closes { N.open_count net.new ≡ N.open_count net.old - count_of listeners }
 {
     match &serving.file {
         None => match Share::open(alloc, serving.name.as_str(), serving.keep, first) {
-            Ok(share) => serve_share(rt, alloc, serving, output, net, doors, share, Unkept).0,
-            Err(error) => turned_away(alloc, output, net, doors, &open_fault(error)),
+            Ok(share) => serve_share(rt, alloc, serving, output, net, listeners, share, Unkept).0,
+            Err(error) => refuse(alloc, output, net, listeners, &open_fault(error)),
         },
         Some(path) => match open_library(
             alloc,
@@ -78,12 +75,12 @@ pub(crate) fn serve_records<W: Sink, F: Files, N: Net, R: Threads + Wait + Clock
         ) {
             Ok(KeptLibrary { share, file }) => {
                 let (outcome, file) = serve_kept::<Brand, W, N, F::D, R>(
-                    rt, alloc, serving, output, net, doors, share, file,
+                    rt, alloc, serving, output, net, listeners, share, file,
                 );
                 let _ = close_file(files, file);
                 outcome
             }
-            Err(stop) => turned_away(alloc, output, net, doors, &stop),
+            Err(stop) => refuse(alloc, output, net, listeners, &stop),
         },
     }
 }
@@ -95,11 +92,11 @@ fn serve_kept<P: Placed, W: Sink, N: Net, D: Disk + Drop, R: Threads + Wait + Cl
     serving: &Serving,
     output: &mut W,
     net: &mut N,
-    doors: Doors<N::D>,
+    listeners: Listeners<N::D>,
     share: Share,
     file: EditFile<D>,
 ) -> (Outcome, EditFile<D>)
-    requires may { MayServeAt serving.now (length doors.listen.items) (length doors.edit.items) }
+    requires may { MayServeWith serving.now listeners }
     requires one { serving.now.editors ≡ 1 }
     requires opening { All (λ e. maker e ≡ 0) share.history }
     requires settings { share.settings ≡ settings_of serving.now }
@@ -107,20 +104,19 @@ fn serve_kept<P: Placed, W: Sink, N: Net, D: Disk + Drop, R: Threads + Wait + Cl
     requires sound { is_broken D.Disk.own file ≡ false }
     requires place { place_of D.Disk.own file ≡ P.place }
     ensures ends { (start : NetSeen)
-        → HasListeners N.D.coming N.D.written N.D.faults serving.now start
-        (net_seen (N.asked net.old) (N.written net.old) (N.door_links net.old) (N.next_input net.old) (N.faults net.old)) doors.listen.items doors.edit.items
+        → HasAddresses N.D.Listener serving.now start (net_of N.Net net.old) listeners
         → ShareEnds serving.now share.history
-        (IsKeptIn D.Disk.own P.place (D.faults (disk_of D.Disk.own file)) result.1)
-        start (net_seen (N.asked net.new) (N.written net.new) (N.door_links net.new) (N.next_input net.new) (N.faults net.new))
-        (output_seen (W.taken output.old) (W.faults output.old))
-        (output_seen (W.taken output.new) (W.faults output.new)) (left_of result.0) }
-    ensures closes { N.open_count net.new ≡ N.open_count net.old - (length doors.listen.items + length doors.edit.items) }
+        (IsKeptIn D.Disk.own P.place (faults_of D.Disk.own file) result.1)
+        start (net_of N.Net net.new)
+        (output_of W.Sink output.old)
+        (output_of W.Sink output.new) (left_of result.0) }
+    ensures closes { N.open_count net.new ≡ N.open_count net.old - count_of listeners }
 {
-    let keeper = PlacedFile {
+    let keeper = NamedFile {
         file,
         of: PhantomData::<P>,
     };
-    let (outcome, keeper) = serve_share(rt, alloc, serving, output, net, doors, share, keeper);
-    let PlacedFile { file, of: _ } = keeper;
+    let (outcome, keeper) = serve_share(rt, alloc, serving, output, net, listeners, share, keeper);
+    let NamedFile { file, of: _ } = keeper;
     (outcome, file)
 }

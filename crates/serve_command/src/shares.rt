@@ -1,26 +1,26 @@
 //! Serves a share from its first line to its last, at listeners that are open.
 
-ghost use Rattle.std.specs.Prelude.{◌≡◌, ◌≤◌, ◌<◌, ◌+◌, ◌-◌, ◌++◌, ◌∷◌, [], ℕ, List, map, length, vec_len, vec_capacity, false, All};
+ghost use Rattle.std.specs.Prelude.{◌≡◌, ◌≤◌, ◌<◌, ◌+◌, ◌-◌, ◌++◌, ◌∷◌, [], ℕ, List, length, vec_len, vec_capacity, false, All};
 ghost use Rattle.item_model.specs.declared.changes.Entry.{Entry};
-ghost use Rattle.command_core.specs.Seen.{NetSeen, OutputSeen, net_seen, output_seen};
+ghost use Rattle.command_core.specs.Seen.{NetSeen, OutputSeen, net_of, output_of};
 ghost use Rattle.command_core.specs.Endings.{IsWritten};
 ghost use Rattle.share_lock.specs.Passes.{lock_id, known, passes_of, IsReady};
 ghost use Rattle.share_replies.specs.Laws.{maker};
 ghost use Rattle.share_crew.specs.Crews.{IsStaff};
 ghost use Rattle.serve_command.specs.Begun.{IsBegunWith};
-ghost use Rattle.serve_command.specs.Files.{HasKept};
+ghost use Rattle.serve_command.specs.Files.{KeepsHistory};
 ghost use Rattle.serve_command.specs.Outcomes.{left_of};
-ghost use Rattle.serve_command.specs.Places.{HasListeners};
+ghost use Rattle.serve_command.specs.Places.{HasAddresses, MayServeWith, all_of, count_of, roles_at};
 ghost use Rattle.serve_command.specs.Runs.{HasServed, ShareEnds};
-ghost use Rattle.serve_command.specs.Terms.{MayServeAt, settings_of};
+ghost use Rattle.serve_command.specs.Terms.{settings_of};
 
 use crate::closing::finish;
 use crate::opening::begin;
-use crate::places::Doors;
+use crate::places::Listeners;
 use crate::terms::Serving;
-use crate::unserved::{given_back, unserved};
-use daap_outside::{Net, Sink};
+use crate::unserved::{close_listeners, no_share};
 use edit_keeping::Keeps;
+use outside_net::{Net, Sink};
 use share_asks::Role;
 use share_core::Share;
 use share_crew::{
@@ -40,63 +40,62 @@ pub(crate) fn serve_share<W: Sink, N: Net, K: Keeps, R: Threads + Wait + Clock +
     serving: &Serving,
     output: &mut W,
     net: &mut N,
-    doors: Doors<N::D>,
+    listeners: Listeners<N::D>,
     share: Share,
     keeper: K,
 ) -> (Outcome, K)
-    requires may { MayServeAt serving.now (length doors.listen.items) (length doors.edit.items) }
+    requires may { MayServeWith serving.now listeners }
     requires opening { All (λ e. maker e ≡ 0) share.history }
     requires settings { share.settings ≡ settings_of serving.now }
     requires going { K.is_lost keeper ≡ false }
     ensures ends { (start : NetSeen)
-        → HasListeners N.D.coming N.D.written N.D.faults serving.now start
-        (net_seen (N.asked net.old) (N.written net.old) (N.door_links net.old) (N.next_input net.old) (N.faults net.old)) doors.listen.items doors.edit.items
+        → HasAddresses N.D.Listener serving.now start (net_of N.Net net.old) listeners
         → ShareEnds serving.now share.history
-        (HasKept serving.now.editors (K.keeps keeper) (K.keeps result.1) (K.is_lost result.1) (K.faults keeper) (K.faults result.1) share.history)
-        start (net_seen (N.asked net.new) (N.written net.new) (N.door_links net.new) (N.next_input net.new) (N.faults net.new))
-        (output_seen (W.taken output.old) (W.faults output.old))
-        (output_seen (W.taken output.new) (W.faults output.new)) (left_of result.0) }
-    ensures closes { N.open_count net.new ≡ N.open_count net.old - (length doors.listen.items + length doors.edit.items) }
+        (KeepsHistory K.Keeps serving.now.editors keeper result.1 share.history)
+        start (net_of N.Net net.new)
+        (output_of W.Sink output.old)
+        (output_of W.Sink output.new) (left_of result.0) }
+    ensures closes { N.open_count net.new ≡ N.open_count net.old - count_of listeners }
 {
     match begin(alloc, serving, output, share) {
-        Ok(begun) => serve_begun(rt, alloc, output, net, doors, begun, keeper),
+        Ok(begun) => serve_locked(rt, alloc, output, net, listeners, begun, keeper),
         Err(status) => {
-            given_back(net, doors);
-            (unserved(alloc, status), keeper)
+            close_listeners(net, listeners);
+            (no_share(alloc, status), keeper)
         }
     }
 }
 
 // Serves a share that is under its lock, to its end. The last editor's worker works in this thread.
-fn serve_begun<W: Sink, N: Net, K: Keeps, R: Threads + Wait + Clock + Sync>(
+fn serve_locked<W: Sink, N: Net, K: Keeps, R: Threads + Wait + Clock + Sync>(
     rt: &R,
     alloc: Global,
     output: &mut W,
     net: &mut N,
-    doors: Doors<N::D>,
+    listeners: Listeners<N::D>,
     begun: LockedShare<N::D>,
     keeper: K,
 ) -> (Outcome, K)
     requires ready { IsReady (lock_id begun.lock) begun.first }
     requires no_crew { begun.room.crew.items ≡ [] }
     requires no_links { begun.room.links.items ≡ [] }
-    requires crew { length doors.listen.items + length doors.edit.items ≤ vec_capacity begun.room.crew }
-    requires links { length doors.listen.items + length doors.edit.items ≤ vec_capacity begun.room.links }
-    requires some { 1 ≤ length doors.edit.items }
-    requires few { length doors.listen.items + length doors.edit.items ≤ 72 }
+    requires crew { count_of listeners ≤ vec_capacity begun.room.crew }
+    requires links { count_of listeners ≤ vec_capacity begun.room.links }
+    requires some { 1 ≤ length listeners.edit.items }
+    requires few { count_of listeners ≤ 72 }
     requires going { K.is_lost keeper ≡ false }
-    ensures serves { (serving : Serving) (opened : List Entry) (start : NetSeen) (before : OutputSeen) (front : List ℕ)
+    ensures serves { (serving : Serving) (opened : List Entry)
+        (start : NetSeen) (before : OutputSeen) (front : List ℕ)
         → IsBegunWith serving opened begun → All (λ e. maker e ≡ 0) opened
-        → HasListeners N.D.coming N.D.written N.D.faults serving start
-        (net_seen (N.asked net.old) (N.written net.old) (N.door_links net.old) (N.next_input net.old) (N.faults net.old)) doors.listen.items doors.edit.items
-        → IsWritten before (output_seen (W.taken output.old) (W.faults output.old)) front
+        → HasAddresses N.D.Listener serving start (net_of N.Net net.old) listeners
+        → IsWritten before (output_of W.Sink output.old) front
         → HasServed serving opened
-        (HasKept serving.editors (K.keeps keeper) (K.keeps result.1) (K.is_lost result.1) (K.faults keeper) (K.faults result.1) opened) front start
-        (net_seen (N.asked net.new) (N.written net.new) (N.door_links net.new) (N.next_input net.new) (N.faults net.new))
-        before (output_seen (W.taken output.new) (W.faults output.new)) (left_of result.0) }
-    ensures closes { N.open_count net.new ≡ N.open_count net.old - (length doors.listen.items + length doors.edit.items) }
+        (KeepsHistory K.Keeps serving.editors keeper result.1 opened) front
+        start (net_of N.Net net.new)
+        before (output_of W.Sink output.new) (left_of result.0) }
+    ensures closes { N.open_count net.new ≡ N.open_count net.old - count_of listeners }
 {
-    let (mut begun, mut last) = assign_workers(rt, alloc, begun, doors);
+    let (mut begun, mut last) = assign_workers(rt, alloc, begun, listeners);
     let mut keeper = keeper;
     keep_beside(
         rt,
@@ -123,19 +122,20 @@ fn assign_workers<D: Drop, R: Wait>(
     rt: &R,
     alloc: Global,
     begun: LockedShare<D>,
-    doors: Doors<D>,
+    listeners: Listeners<D>,
 ) -> (LockedShare<D>, Worker<D>)
     requires ready { IsReady (lock_id begun.lock) begun.first }
     requires empty { begun.room.crew.items ≡ [] }
-    requires room { length doors.listen.items + length doors.edit.items ≤ vec_capacity begun.room.crew }
-    requires some { 1 ≤ length doors.edit.items }
+    requires room { count_of listeners ≤ vec_capacity begun.room.crew }
+    requires some { 1 ≤ length listeners.edit.items }
     ensures lock { lock_id result.0.lock ≡ lock_id begun.lock }
     ensures ready { IsReady (lock_id result.0.lock) result.0.first }
     ensures pass { known result.0.first ≡ known begun.first }
     ensures staff { IsStaff (lock_id result.0.lock) (known result.0.first)
-        (map (λ door. Role.Listen) doors.listen.items ++ map (λ door. Role.Edit) doors.edit.items)
-        (doors.listen.items ++ doors.edit.items) (result.0.room.crew.items ++ result.1 ∷ []) }
-    ensures len { length result.0.room.crew.items + 1 ≡ length doors.listen.items + length doors.edit.items }
+        (roles_at listeners)
+        (all_of listeners)
+        (result.0.room.crew.items ++ result.1 ∷ []) }
+    ensures len { length result.0.room.crew.items + 1 ≡ count_of listeners }
     ensures room { vec_len result.0.room.crew < vec_capacity result.0.room.crew }
     ensures links { result.0.room.links ≡ begun.room.links }
 {
@@ -144,7 +144,7 @@ fn assign_workers<D: Drop, R: Wait>(
         mut first,
         room: WorkerBuffers { mut crew, links },
     } = begun;
-    let Doors { listen, edit } = doors;
+    let Listeners { listen, edit } = listeners;
     add_workers(
         rt,
         alloc,

@@ -1,21 +1,20 @@
 //! The end of runs whose share is not served.
 
-ghost use Rattle.std.specs.Prelude.{◌≡◌, ◌+◌, ◌-◌, length};
-ghost use Rattle.command_core.specs.Seen.{NetSeen, net_seen, output_seen};
-ghost use Rattle.share_crew.specs.Doors.{AreNew};
+ghost use Rattle.std.specs.Prelude.{◌≡◌, ◌-◌};
+ghost use Rattle.command_core.specs.Seen.{NetSeen, net_of, output_of};
 ghost use Rattle.serve_command.specs.Outcomes.{left_of};
-ghost use Rattle.serve_command.specs.Places.{IsGivenBack};
+ghost use Rattle.serve_command.specs.Places.{AreUnused, IsGivenBack, count_of};
 ghost use Rattle.serve_command.specs.Runs.{HasNoShare, TellsFault};
 ghost use Rattle.serve_command.specs.Terms.{places_of};
 
-use crate::places::Doors;
+use crate::places::Listeners;
 use command_core::{Fault, Refusal, write_error};
-use daap_outside::{Net, Sink};
-use share_crew::{LinkReports, Outcome, shut_all};
+use outside_net::{Net, Sink};
+use share_crew::{LinkReports, Outcome, close_all};
 use std::alloc::Global;
 
 /// Returns the outcome if no share was put under a lock.
-pub(crate) fn unserved(alloc: Global, status: u8) -> Outcome
+pub(crate) fn no_share(alloc: Global, status: u8) -> Outcome
     ensures status { result.status ≡ status }
     ensures none { HasNoShare (left_of result) }
 {
@@ -27,34 +26,35 @@ pub(crate) fn unserved(alloc: Global, status: u8) -> Outcome
 }
 
 /// Closes listeners at which no worker has accepted.
-pub(crate) fn given_back<N: Net>(net: &mut N, doors: Doors<N::D>)
-    ensures back { (start : NetSeen) → AreNew N.D.written N.D.faults start.written doors.listen.items → AreNew N.D.written N.D.faults start.written doors.edit.items
-        → IsGivenBack start
-        (net_seen (N.asked net.old) (N.written net.old) (N.door_links net.old) (N.next_input net.old) (N.faults net.old))
-        (net_seen (N.asked net.new) (N.written net.new) (N.door_links net.new) (N.next_input net.new) (N.faults net.new)) }
-    ensures closes { N.open_count net.new ≡ N.open_count net.old - (length doors.listen.items + length doors.edit.items) }
+pub(crate) fn close_listeners<N: Net>(net: &mut N, listeners: Listeners<N::D>)
+    ensures back { (start : NetSeen) → AreUnused N.D.Listener start listeners.listen.items
+        → AreUnused N.D.Listener start listeners.edit.items
+        → IsGivenBack start (net_of N.Net net.old) (net_of N.Net net.new) }
+    ensures closes { N.open_count net.new ≡ N.open_count net.old - count_of listeners }
 {
-    shut_all(net, doors.listen);
-    shut_all(net, doors.edit);
+    close_all(net, listeners.listen);
+    close_all(net, listeners.edit);
 }
 
 /// Writes the line of `stop`, because of which no share is opened, and closes the listeners.
-pub(crate) fn turned_away<W: Sink, N: Net, E: Refusal>(
+pub(crate) fn refuse<W: Sink, N: Net, E: Refusal>(
     alloc: Global,
     output: &mut W,
     net: &mut N,
-    doors: Doors<N::D>,
+    listeners: Listeners<N::D>,
     stop: &Fault<E>,
 ) -> Outcome
-    ensures told { TellsFault E.told_line E.told_status stop.now (output_seen (W.taken output.old) (W.faults output.old)) (output_seen (W.taken output.new) (W.faults output.new)) result.status }
+    ensures told { TellsFault E.told_line E.told_status stop.now
+        (output_of W.Sink output.old)
+        (output_of W.Sink output.new)
+        result.status }
     ensures none { HasNoShare (left_of result) }
-    ensures back { (start : NetSeen) → AreNew N.D.written N.D.faults start.written doors.listen.items → AreNew N.D.written N.D.faults start.written doors.edit.items
-        → IsGivenBack start
-        (net_seen (N.asked net.old) (N.written net.old) (N.door_links net.old) (N.next_input net.old) (N.faults net.old))
-        (net_seen (N.asked net.new) (N.written net.new) (N.door_links net.new) (N.next_input net.new) (N.faults net.new)) }
-    ensures closes { N.open_count net.new ≡ N.open_count net.old - (length doors.listen.items + length doors.edit.items) }
+    ensures back { (start : NetSeen) → AreUnused N.D.Listener start listeners.listen.items
+        → AreUnused N.D.Listener start listeners.edit.items
+        → IsGivenBack start (net_of N.Net net.old) (net_of N.Net net.new) }
+    ensures closes { N.open_count net.new ≡ N.open_count net.old - count_of listeners }
 {
     let status = write_error(alloc, output, stop).status;
-    given_back(net, doors);
-    unserved(alloc, status)
+    close_listeners(net, listeners);
+    no_share(alloc, status)
 }

@@ -1,5 +1,5 @@
 -- The requests of a client that follows a listing: each reads back, and each has a reply that a client reads as it was meant.
-use Rattle.std.proofs.Common.{◌≡◌, ◌<◌, ◌^◌, ℕ, List, [], Option, Some, refl, sym, ap, ◌∙◌, subst, arith}
+use Rattle.std.proofs.Common.{◌≡◌, ℕ, List, [], Option, Some, refl, sym, ap, ◌∙◌, subst, arith}
 use Rattle.dmap_tags.specs.Codes.{code}
 use Rattle.dmap_tags.specs.Spelling.{spelling}
 use Rattle.dmap_tags.specs.Tree.{Tree}
@@ -28,7 +28,6 @@ use Rattle.http_client.proofs.RequestBack.{requests_read_back}
 use Rattle.mirror_core.specs.Mirrored.{Mirrored}
 use Rattle.mirror_client.specs.Tellings.{IsTag, TellsNumber, number_told}
 use Rattle.mirror_client.proofs.TellingFacts.{tags_once}
-use Rattle.followed_shares.specs.Served.{Serves}
 use Rattle.share_history.specs.Whole.{IsWhole}
 use Rattle.followed_shares.proofs.BodiesRead.{listing_body_read}
 use Rattle.followed_shares.proofs.FilterShown.{few, login_tag, revision_tag, table_tag}

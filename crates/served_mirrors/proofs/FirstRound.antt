@@ -1,5 +1,5 @@
 -- A new share without edits serves a mirror of all items: it learns the table, logs in, reads one listing and logs out.
-use Rattle.std.proofs.Common.{◌≡◌, ◌≤◌, ◌+◌, ℕ, List, [], ◌∷◌, ◌++◌, length, true, false, Option, Some, None, refl, sym, ◌∙◌, inl, inr, append-nil, arith}
+use Rattle.std.proofs.Common.{◌≡◌, ◌+◌, ℕ, List, [], ◌∷◌, ◌++◌, length, true, false, Option, Some, None, refl, sym, ◌∙◌, inl, inr, append-nil, arith}
 use Rattle.dmap_tags.specs.Spelling.{spelling}
 use Rattle.dmap_tags.specs.Tree.{Tree}
 use Rattle.code_table.specs.Reply.{table_reply}
@@ -10,7 +10,7 @@ use Rattle.item_model.specs.declared.query.Query.{Query}
 use Rattle.item_model.specs.declared.request.Meta.{Meta}
 use Rattle.item_model.specs.declared.request.Target.TheVariants.{Items}
 use Rattle.http_front.specs.ReplyHeads.{reply_head_text}
-use Rattle.http_front.specs.Readings.{IsReading, Joins, reading}
+use Rattle.http_front.specs.Readings.{IsReading, reading}
 use Rattle.http_front.proofs.ReadingLaws.{joined_before, nothing_read as no_bytes_read}
 use Rattle.http_client.specs.Requests.{request_text}
 use Rattle.share_asks.specs.declared.ask.Ask.{Ask}
@@ -29,9 +29,8 @@ use Rattle.share_server.specs.declared.report.LinkEnd.TheVariants.{Closed as clo
 use Rattle.share_server.specs.declared.report.Served.{Served}
 use Rattle.share_server.specs.Replies.{GoOn, replies}
 use Rattle.share_server.specs.Served.{AreServed}
-use Rattle.mirror_core.specs.Mirrored.{Mirrored}
 use Rattle.mirror_core.proofs.AfterFacts.{answer_is_listing}
-use Rattle.mirror_client.specs.Exchanges.{AreAnswered, Exchange, messages, requests}
+use Rattle.mirror_client.specs.Exchanges.{AreAnswered, Exchange, messages}
 use Rattle.mirror_client.specs.Points.{nothing_read, place}
 use Rattle.mirror_client.specs.Runs.{Followed}
 use Rattle.mirror_client.specs.Stages.{Asking, Begun, Closed, Holding, Learned, Path}
@@ -40,11 +39,11 @@ use Rattle.share_history.specs.Whole.{IsWhole}
 use Rattle.followed_shares.proofs.BodiesRead.{listing_body_read}
 use Rattle.followed_shares.proofs.FilterShown.{few, login_tag, standard_back, table_tag}
 use Rattle.followed_shares.proofs.HeadsRead.{empty_read, tag_read}
-use Rattle.served_mirrors.specs.Examples.{IsServedOnce, new_mirror}
+use Rattle.served_mirrors.specs.Examples.{new_mirror}
 use Rattle.served_mirrors.specs.Links.{AnsweredAll, ServedLink}
 use Rattle.served_mirrors.specs.Laws.{MirrorsAreServed}
 use Rattle.served_mirrors.specs.Mirrors.{CanBeAsked}
-use Rattle.served_mirrors.proofs.Answering.{ReadsBack, open_ask}
+use Rattle.served_mirrors.proofs.Answering.{open_ask}
 use Rattle.served_mirrors.proofs.Asking.{codes_back, login_back, logout_back, rows_back}
 
 -- ---- the requests, and how the share answers them

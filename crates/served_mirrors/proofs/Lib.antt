@@ -1,5 +1,6 @@
 pub mod ServedLinks
 pub mod Sends
+pub mod Granted
 pub mod Answering
 pub mod Points
 pub mod Asking

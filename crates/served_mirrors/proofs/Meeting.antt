@@ -1,32 +1,33 @@
 -- What a mirror read on a connection is what its server wrote there, so that it holds what the share has.
-use Rattle.std.proofs.Common.{◌≡◌, ◌≤◌, ◌+◌, ℕ, List, [], ◌∷◌, ◌++◌, take, length, false, Option, Some, None, refl, sym, ap, ◌∙◌, subst, append_assoc, append-nil, arith}
+use Rattle.std.proofs.Common.{◌≡◌, ◌≤◌, ◌⊎◌, ℕ, List, [], ◌∷◌, ◌++◌, take, length, false, Option, Some, None, refl, sym, ap, ◌∙◌, subst, inl, inr, append_assoc, append-nil, length-append, arith}
+use Rattle.std.proofs.lemmas.List.{take_at, take-append-le}
 use Rattle.std.specs.Io.KnownBytes.{Appends}
-use Rattle.item_model.specs.declared.changes.Edit.{Edit}
 use Rattle.item_model.specs.declared.changes.Entry.{Entry}
+use Rattle.item_model.specs.declared.query.Query.{Query}
+use Rattle.item_model.specs.declared.request.Meta.{Meta}
+use Rattle.item_model.specs.declared.request.Target.{Target}
+use Rattle.http_front.proofs.ReadingLaws.{joins_stay}
 use Rattle.share_asks.specs.declared.ask.Role.{Role}
-use Rattle.share_history.specs.Histories.{batches, edits, revision}
-use Rattle.share_history.specs.Listings.{Listing, shown_rows}
-use Rattle.share_history.specs.Mirror.{Held, mirrored}
-use Rattle.share_history.specs.Rows.{rows}
+use Rattle.share_history.specs.Histories.{batches, revision}
+use Rattle.share_history.specs.Listings.{Listing}
+use Rattle.share_history.specs.Mirror.{Held, mirror_after, mirrored}
 use Rattle.share_replies.specs.Settings.{Settings}
-use Rattle.http_client.specs.Replies.{Reply}
+use Rattle.share_server.specs.declared.report.Served.{Served}
+use Rattle.share_server.specs.Passes.{Rises}
 use Rattle.mirror_core.specs.Mirrored.{Mirrored}
-use Rattle.mirror_client.specs.Exchanges.{Exchange, messages, requests}
-use Rattle.mirror_client.specs.Laws.{AreAnswers, last_point}
+use Rattle.mirror_client.specs.Exchanges.{messages, requests}
+use Rattle.mirror_client.specs.Laws.{AreAnswers, NeverFall, last_point}
 use Rattle.mirror_client.specs.Points.{Point}
-use Rattle.mirror_client.specs.Stages.{Begun, Closed, Stage, UnexpectedIn, Walks, listings_in}
-use Rattle.mirror_client.specs.Steps.{all_applied, held_after, with_listings}
-use Rattle.mirror_client.specs.declared.refusal.FollowError.{FollowError}
-use Rattle.mirror_client.proofs.FilterFacts.{followers_hold_the_filter}
-use Rattle.mirror_client.proofs.StageFacts.{part_written}
-use Rattle.followed_shares.specs.Laws.{last_revision, rows_at}
+use Rattle.mirror_client.specs.Stages.{Begun, Stage, Walks, listings_in}
+use Rattle.mirror_client.specs.Steps.{held_after, with_listings}
+use Rattle.mirror_client.proofs.FilterFacts.{caught_up, followers_hold_the_filter}
 use Rattle.followed_shares.specs.Served.{Rise}
 use Rattle.share_history.specs.Whole.{IsWhole}
-use Rattle.followed_shares.proofs.FilterShown.{held_last, owed_split, point_batches}
-use Rattle.served_mirrors.specs.Laws.{FollowersHoldTheShare, StoppedMirrorsHoldTheShare, WalkersHoldTheShare}
+use Rattle.followed_shares.proofs.FilterShown.{owed_split}
+use Rattle.served_mirrors.specs.Laws.{WalkersHoldTheShare}
 use Rattle.served_mirrors.specs.Links.{ServedLink}
-use Rattle.served_mirrors.specs.Mirrors.{CanBeAsked, HoldsLast, HoldsTheShare}
-use Rattle.served_mirrors.proofs.Points.{IsPrefix, last_begins, prefix_both, prefix_taken, rise_falls, rise_short}
+use Rattle.served_mirrors.specs.Mirrors.{AreBehindLogin, BeganWell, CanBeAsked, HoldsLast, HoldsTheShare}
+use Rattle.served_mirrors.proofs.Points.{IsPrefix, listed_still, prefix_both, prefix_taken, rise_falls, rise_short}
 use Rattle.served_mirrors.proofs.Sends.{Left, link_sends}
 use Rattle.served_mirrors.proofs.Standing.{Stands, walk}
 
@@ -46,70 +47,142 @@ written_before before (Some sent) now bytes part input nothing is first second =
 
 -- ---- what the mirror holds
 
-holds_last : (s : Settings) (h : List Entry) (m now : Mirrored) (ls : List Listing) (points : List (List Entry)) → now.held ≡ held_after m.held ls → Rise points h
-    → AreAnswers s.keep m.target m.query m.meta 0 points ls → HoldsLast m points now
-holds_last s h m now [] [] holds rise are = holds
-holds_last s h m now (l ∷ ls) [] holds rise are = absurd are
-holds_last s h m now ls (p ∷ points) holds rise are =
-    holds ∙ followers_hold_the_filter s.keep m.target m.query m.meta m.held p points ls (rise_falls p points h rise) are
+-- a mirror that held what the share had at one history
+holds_further : (keep : ℕ) (target : Target) (query : Option Query) (meta : Meta) (h : List Entry) (hs : List (List Entry)) (ls : List Listing) (held : Held)
+    → held ≡ mirrored (batches h) target query meta → NeverFall h hs → AreAnswers keep target query meta (revision (batches h)) hs ls
+    → held_after held ls ≡ mirrored (batches (last_point h hs)) target query meta
+holds_further keep target query meta h [] [] held holds fall are = holds
+holds_further keep target query meta h [] (l ∷ ls) held holds fall are = absurd are
+holds_further keep target query meta h (k ∷ hs) [] held holds fall are = absurd are
+holds_further keep target query meta h (k ∷ hs) (l ∷ ls) held holds fall are =
+    holds_further keep target query meta k hs ls (mirror_after held l) (caught_up keep target query meta h fall.0.0 k held l fall.0.1 holds are.0) fall.1 are.1
+
+-- The history at which a mirror begins: the empty one if it is new.
+record Starts (m : Mirrored) (h : List Entry) (served : List Served) : Type 0 where
+  start : List Entry
+  begins : IsPrefix start h
+  since : Rises (length start) served (length h)
+  least : m.held.revision ≤ revision (batches start)
+  held : (m.held.revision ≡ 0) ⊎ (m.held ≡ mirrored (batches start) m.target m.query m.meta)
+
+starts : (m : Mirrored) (h : List Entry) (served : List Served) → Rises 0 served (length h) → BeganWell m h served → Starts m h served
+starts m h served rises (inl zero) = record { start = []; begins = (h, refl); since = rises; least = omega (arith, zero); held = inl zero }
+starts m h served rises (inr before) =
+    let same : m.held.revision ≡ revision (batches before.front) = ap (λ (x : Held). x.revision) before.holds in
+    record { start = before.front; begins = (before.later, before.begins); since = before.since; least = omega (arith, same); held = inr before.holds }
+
+holds_last : (s : Settings) (h : List Entry) (m now : Mirrored) (ls : List Listing) (start : List Entry) (points : List (List Entry))
+    → (m.held.revision ≡ 0) ⊎ (m.held ≡ mirrored (batches start) m.target m.query m.meta) → now.held ≡ held_after m.held ls → Rise (start ∷ points) h
+    → AreAnswers s.keep m.target m.query m.meta m.held.revision points ls → HoldsLast m points now
+holds_last s h m now [] start [] held holds rise are = holds
+holds_last s h m now (l ∷ ls) start [] held holds rise are = absurd are
+holds_last s h m now ls start (p ∷ points) (inl zero) holds rise are =
+    holds
+    ∙ followers_hold_the_filter s.keep m.target m.query m.meta m.held p points ls (rise_falls p points h rise.1)
+    (subst (λ (base : ℕ). AreAnswers s.keep m.target m.query m.meta base (p ∷ points) ls) zero are)
+holds_last s h m now ls start (p ∷ points) (inr held) holds rise are =
+    holds
+    ∙ holds_further s.keep m.target m.query m.meta start (p ∷ points) ls m.held held (rise_falls start (p ∷ points) h rise)
+    (subst (λ (base : ℕ). AreAnswers s.keep m.target m.query m.meta base (p ∷ points) ls) (ap (λ (x : Held). x.revision) held) are)
+
+-- a server that has more to read serves the same requests first
+longer : (s : Settings) (by limit : ℕ) (role : Role) (h : List Entry) (reports : List Served) (low n : ℕ) (input lost bytes : List ℕ)
+    → Left s by limit role h reports false low n input bytes → Left s by limit role h reports false low n (input ++ lost) bytes
+longer s by limit role h reports low n input lost bytes left = record {
+  asks = left.asks;
+  rest = left.rest ++ lost;
+  served = left.served;
+  tail = left.tail;
+  joins = joins_stay role input lost left.asks left.rest left.joins;
+  are_served = left.are_served;
+  rises = left.rises;
+  among = left.among;
+  front = left.front;
+  others = left.others;
+  there = left.there;
+  count = left.count;
+  whole = left.whole;
+  nothing = left.nothing;
+  complete = λ e. absurd (cc e);
+}
+
+-- the history may have grown since
+behind_still : (by : ℕ) (h later : List Entry) (served : List Served) (points : List (List Entry)) → AreBehindLogin by h served points → AreBehindLogin by (h ++ later) served points
+behind_still by h later served [] are = tt
+behind_still by h later served (p ∷ points) b =
+    let within = b.within in
+    let same : take b.login.point (h ++ later) ≡ take b.login.point h = take-append-le b.login.point h later within in
+    record {
+      login = b.login;
+      is_report = b.is_report;
+      within = omega (arith, within, length-append h later);
+      added = b.added;
+      session = b.session;
+      before = b.before;
+      entered = same ∙ b.entered;
+      since = b.since;
+      begins = b.begins ∙ ap (λ (x : List Entry). x ++ b.since) (sym same);
+    }
 
 module _ (host : List ℕ) (m : Mirrored) (rounds : ℕ) (s : Settings) (by limit : ℕ) (role : Role) (h later : List Entry) where
-  shown : (t : Stage) (input bytes : List ℕ) (now : Mirrored) → Stands host m rounds s by limit role h false t input bytes → now.held ≡ held_after m.held (listings_in t)
-      → HoldsTheShare s (h ++ later) m (listings_in t) now
-  shown t input bytes now st holds =
-      let longer : IsPrefix (take st.low h) (h ++ later) = prefix_both (take st.low h) h (h ++ later) (prefix_taken st.low h) (later, refl) in
-      let rise = rise_short st.points (take st.low h) h (h ++ later) longer st.rise in
-      record { points = st.points; rise = rise; answers = st.answers; holds = holds_last s (h ++ later) m now (listings_in t) st.points holds rise st.answers }
+  shown : (served : List Served) (start : List Entry) (t : Stage) (input bytes : List ℕ) (now : Mirrored) → Stands host m rounds s by limit role h served start false t input bytes
+      → (m.held.revision ≡ 0) ⊎ (m.held ≡ mirrored (batches start) m.target m.query m.meta) → now.held ≡ held_after m.held (listings_in t)
+      → HoldsTheShare s by (h ++ later) served m (listings_in t) now
+  shown served start t input bytes now st held holds =
+      let further : IsPrefix (take st.low h) (h ++ later) = prefix_both (take st.low h) h (h ++ later) (prefix_taken st.low h) (later, refl) in
+      let rise : Rise (start ∷ st.points) (h ++ later) = rise_short (start ∷ st.points) (take st.low h) h (h ++ later) further st.rise in
+      record {
+        points = st.points;
+        rise = rise.1;
+        listed = listed_still h later served 2 st.points st.listed;
+        behind = behind_still by h later served st.points st.behind;
+        new = st.new;
+        answers = st.answers;
+        holds = holds_last s (h ++ later) m now (listings_in t) start st.points held holds rise st.answers;
+      }
 
-  begins : (input bytes : List ℕ) → m.held.revision ≡ 0 → Left s by limit role h false 0 1 input bytes → Stands host m rounds s by limit role h false Begun input bytes
-  begins input bytes zero left = record { low = 0; n = 1; left = left; knows = tt; points = []; rise = ((h, refl), tt); answers = tt; base = zero }
+  begins : (served : List Served) (x : Starts m h served) (input bytes : List ℕ) → Left s by limit role h served false (length x.start) 1 input bytes
+      → Stands host m rounds s by limit role h served x.start false Begun input bytes
+  begins served x input bytes left =
+      let same : take (length x.start) h ≡ x.start = ap (take (length x.start)) x.begins.1 ∙ take_at x.start x.begins.0 (length x.start) refl in
+      let least = x.least in
+      record {
+        low = length x.start;
+        n = 1;
+        left = left;
+        count = refl;
+        knows = tt;
+        least = subst (λ (p : List Entry). m.held.revision ≤ revision (batches p)) (sym same) least;
+        points = [];
+        rise = (([], same ∙ sym (append-nil x.start)), (prefix_taken (length x.start) h, tt));
+        listed = tt;
+        behind = tt;
+        new = tt;
+        has_new = tt;
+        answers = tt;
+        base = refl;
+      }
 
-  -- after these requests and some bytes more
-  walked : (p : Point) (t : Stage) (there : Point) (part output : List ℕ) (now : Mirrored) (w : Walks host m rounds Begun p t there) → m.held.revision ≡ 0 → CanBeAsked host m
-      → IsWhole h → p.owed ≡ Some output → ServedLink s by limit role h (requests w.exchanges ++ part) output → now.held ≡ held_after m.held (listings_in t)
-      → HoldsTheShare s (h ++ later) m (listings_in t) now
-  walked p t there part output now w zero can whole owed served holds =
-      let sends = link_sends s by limit role h (requests w.exchanges ++ part) output served in
-      let read = owed_split p.owed there.owed output (messages w.exchanges) owed w.went.read in
-      shown t part (read.0 ++ sends.0) now
-      (walk host m rounds s by limit role h false whole zero can Begun t w.exchanges part (output ++ sends.0) (read.0 ++ sends.0)
-      (begins (requests w.exchanges ++ part) (output ++ sends.0) zero sends.1) w.path w.went.answered
-      (ap (λ (bs : List ℕ). bs ++ sends.0) read.1 ∙ append_assoc (messages w.exchanges) read.0 sends.0))
-      holds
+  -- After these requests and some bytes more. The server read a prefix of what was written, and the mirror had a prefix
+  -- of the output to read.
+  walked_from : (p : Point) (t : Stage) (there : Point) (part input lost output owed dropped : List ℕ) (now : Mirrored) (w : Walks host m rounds Begun p t there)
+      → (link : ServedLink s by limit role h input output) → Starts m h link.served → CanBeAsked host m → IsWhole h → p.owed ≡ Some owed → requests w.exchanges ++ part ≡ input ++ lost
+      → output ≡ owed ++ dropped → now.held ≡ held_after m.held (listings_in t) → HoldsTheShare s by (h ++ later) link.served m (listings_in t) now
+  walked_from p t there part input lost output owed dropped now w link x can whole is_owed reached answered holds =
+      let sends = link_sends s by limit role h input output link (length x.start) x.since in
+      let left = longer s by limit role h link.served (length x.start) 1 input lost (output ++ sends.0) sends.1 in
+      let read = owed_split p.owed there.owed owed (messages w.exchanges) is_owed w.went.read in
+      let bytes : output ++ sends.0 ≡ messages w.exchanges ++ (read.0 ++ (dropped ++ sends.0)) =
+      ap (λ (bs : List ℕ). bs ++ sends.0) (answered ∙ ap (λ (bs : List ℕ). bs ++ dropped) read.1)
+      ∙ append_assoc (messages w.exchanges ++ read.0) dropped sends.0 ∙ append_assoc (messages w.exchanges) read.0 (dropped ++ sends.0) in
+      shown link.served x.start t part (read.0 ++ (dropped ++ sends.0)) now
+      (walk host m rounds s by limit role h link.served x.start false whole can Begun t w.exchanges part (output ++ sends.0) (read.0 ++ (dropped ++ sends.0))
+      (begins link.served x (requests w.exchanges ++ part) (output ++ sends.0)
+      (subst (λ (bs : List ℕ). Left s by limit role h link.served false (length x.start) 1 bs (output ++ sends.0)) (sym reached) left)) w.path w.went.answered bytes)
+      x.held holds
 
 pub walkers_hold_the_share : WalkersHoldTheShare
-walkers_hold_the_share host m rounds p t there s by limit role h later sent part output w zero can whole nothing is owed served =
+walkers_hold_the_share host m rounds p t there s by limit role h later sent part input lost output owed dropped w link began can whole nothing is is_owed reached answered =
     let same = all_written p.taken there.taken (requests w.exchanges) sent nothing is w.went.written in
-    walked host m rounds s by limit role h later p t there part output (with_listings m (listings_in t)) w zero can whole owed
-    (subst (λ (bs : List ℕ). ServedLink s by limit role h (bs ++ part) output) same served) refl
-
-pub stopped_mirrors_hold_the_share : StoppedMirrorsHoldTheShare
-stopped_mirrors_hold_the_share host m rounds p taken e now s by limit role h later input output x zero can whole nothing is owed served =
-    let part = part_written x.request (UnexpectedIn m rounds x.stage) x.there taken e x.stops in
-    let split = written_before p.taken x.there.taken taken (requests x.walks.exchanges) part.0 input nothing is x.walks.went.written part.1 in
-    walked host m rounds s by limit role h later p x.stage x.there part.0 output now x.walks zero can whole owed
-    (subst (λ (bs : List ℕ). ServedLink s by limit role h bs output) split.1 served) (ap (λ (k : Mirrored). k.held) x.holds)
-
--- ---- the rows at the end
-
-rows_shown : (s : Settings) (h : List Entry) (m now : Mirrored) (ls : List Listing) (v : ℕ) (points : List (List Entry)) → 1 ≤ length ls → now.held ≡ held_after m.held ls
-    → v ≡ (held_after m.held ls).revision → Rise points h → AreAnswers s.keep m.target m.query m.meta 0 points ls → HoldsLast m points now
-    → now.held.rows ≡ rows_at h m.target m.query m.meta v
-rows_shown s h m now [] v [] some holds told rise are last = absurd (omega (arith, some))
-rows_shown s h m now (l ∷ ls) v [] some holds told rise are last = absurd are
-rows_shown s h m now ls v (p ∷ points) some holds told rise are last =
-    let point : List Entry = last_point p points in
-    let begins = last_begins p points h rise in
-    let revisions : v ≡ revision (batches point) = told ∙ ap (λ (x : Held). x.revision) (sym holds ∙ last) in
-    ap (λ (x : Held). x.rows) last
-    ∙ ap (λ (bs : List (List Edit)). shown_rows m.target m.meta (rows (edits bs) m.target m.query)) (sym (point_batches h point begins.0 begins.1))
-    ∙ ap (λ (n : ℕ). rows_at h m.target m.query m.meta n) (sym revisions)
-
-pub followers_hold_the_share : FollowersHoldTheShare
-followers_hold_the_share host m rounds p taken applied now s by limit role h later input output f positive zero can whole nothing is owed served =
-    let same = all_written p.taken f.there.taken (requests f.walks.exchanges) input nothing (f.written ∙ is) f.walks.went.written in
-    let held : now.held ≡ held_after m.held f.listings = ap (λ (k : Mirrored). k.held) f.holds in
-    let some : 1 ≤ length f.listings = (let each = f.one_each in omega (arith, each, positive)) in
-    let all = walked host m rounds s by limit role h later p (Closed f.known f.listings) f.there [] output now f.walks zero can whole owed
-    (subst (λ (bs : List ℕ). ServedLink s by limit role h bs output) (same ∙ sym (append-nil (requests f.walks.exchanges))) served) held in
-    (all, rows_shown s (h ++ later) m now f.listings (last_revision applied) all.points some held (ap last_revision f.told ∙ held_last m.held f.listings some) all.rise all.answers all.holds)
+    walked_from host m rounds s by limit role h later p t there part input lost output owed dropped (with_listings m (listings_in t)) w link (starts m h link.served link.rises began) can whole is_owed
+    (ap (λ (bs : List ℕ). bs ++ part) (sym same) ∙ reached) answered refl

@@ -1,6 +1,7 @@
 -- Prefixes of one history, each one of the next, and the listings that are answered on them.
-use Rattle.std.proofs.Common.{◌≡◌, ◌≤◌, ℕ, zero, suc, ◌+◌, ◌-◌, List, [], ◌∷◌, ◌++◌, take, drop, length, Bool, true, false, cond, Option, refl, sym, ap, ◌∙◌, subst, append_assoc, append-nil, length-append, arith}
+use Rattle.std.proofs.Common.{◌≡◌, ◌≤◌, ℕ, zero, suc, ◌+◌, ◌*◌, ◌-◌, List, [], ◌∷◌, ◌++◌, take, drop, length, Bool, true, false, cond, Option, Some, refl, sym, ap, ◌∙◌, subst, append_assoc, append-nil, length-append, arith}
 use Rattle.std.proofs.lemmas.List.{length-take-le, take-append-drop, take-append-le}
+use Rattle.std.specs.List.{slice_get}
 use Rattle.item_model.specs.declared.changes.Edit.{Edit}
 use Rattle.item_model.specs.declared.changes.Entry.{Entry}
 use Rattle.item_model.specs.declared.query.Query.{Query}
@@ -10,10 +11,12 @@ use Rattle.share_history.specs.Histories.{batches, revision}
 use Rattle.share_history.specs.Listings.{Listing, listing}
 use Rattle.share_history.specs.Mirror.{mirror_look}
 use Rattle.share_history.proofs.EditFacts.{batches-append}
-use Rattle.share_server.specs.Served.{answered_on}
+use Rattle.share_server.specs.declared.report.Served.{Served}
+use Rattle.share_server.specs.Served.{answered_on, at_point}
 use Rattle.mirror_client.specs.Laws.{AreAnswers, NeverFall, last_point}
-use Rattle.followed_shares.specs.Served.{Rise, first_of}
+use Rattle.followed_shares.specs.Served.{Rise}
 use Rattle.share_history.specs.Whole.{IsWhole}
+use Rattle.served_mirrors.specs.Mirrors.{AreListed, IsListed}
 use Rattle.share_history.proofs.WholeFacts.{point_whole}
 
 -- ---- histories that begin others
@@ -30,7 +33,7 @@ prefix_both p q r a b = (a.0 ++ b.0, b.1 ∙ ap (λ (x : List Entry). x ++ b.0) 
 pub prefix_taken : (n : ℕ) (h : List Entry) → IsPrefix (take n h) h
 prefix_taken n h = (drop n h, sym (take-append-drop n h))
 
-prefix_longer : (m n : ℕ) (h : List Entry) → m ≤ n → IsPrefix (take m h) (take n h)
+pub prefix_longer : (m n : ℕ) (h : List Entry) → m ≤ n → IsPrefix (take m h) (take n h)
 prefix_longer zero n h less = (take n h, refl)
 prefix_longer (suc m) zero h less = absurd (omega (arith, less))
 prefix_longer (suc m) (suc n) [] less = ([], refl)
@@ -114,3 +117,39 @@ answers_more keep target query meta base [] (k ∷ ls) p l are is = absurd are
 answers_more keep target query meta base (q ∷ points) [] p l are is = absurd are
 answers_more keep target query meta base (q ∷ points) (k ∷ ls) p l are is =
     (are.0, answers_more keep target query meta (revision (batches q)) points ls p l are.1 is)
+
+pub as_many_points : (keep : ℕ) (target : Target) (query : Option Query) (meta : Meta) (base : ℕ) (points : List (List Entry)) (ls : List Listing)
+    → AreAnswers keep target query meta base points ls → length points ≡ length ls
+as_many_points keep target query meta base [] [] are = refl
+as_many_points keep target query meta base [] (l ∷ ls) are = absurd are
+as_many_points keep target query meta base (p ∷ points) [] are = absurd are
+as_many_points keep target query meta base (p ∷ points) (l ∷ ls) are = ap suc (as_many_points keep target query meta (revision (batches p)) points ls are.1)
+
+-- ---- the requests that they answer
+
+pub got_behind : (front : List Served) (one : Served) (rest : List Served) → slice_get (front ++ one ∷ rest) (length front) ≡ Some one
+got_behind [] one rest = refl
+got_behind (v ∷ front) one rest = got_behind front one rest
+
+pub listed_more : (h : List Entry) (reports : List Served) (number : ℕ) (points : List (List Entry)) (p : List Entry) → AreListed h reports number points
+    → IsListed h reports (number + 2 * length points) p → AreListed h reports number (points ++ p ∷ [])
+listed_more h reports number [] p are is =
+    let same : number + 2 * 0 ≡ number = omega arith in (subst (λ (n : ℕ). IsListed h reports n p) same is, tt)
+listed_more h reports number (q ∷ points) p are is =
+    let same : number + 2 * length (q ∷ points) ≡ number + 2 + 2 * length points = omega arith in
+    (are.0, listed_more h reports (number + 2) points p are.1 (subst (λ (n : ℕ). IsListed h reports n p) same is))
+
+-- the history may have grown since
+pub listed_still : (h later : List Entry) (reports : List Served) (number : ℕ) (points : List (List Entry)) → AreListed h reports number points → AreListed (h ++ later) reports number points
+listed_still h later reports number [] are = tt
+listed_still h later reports number (p ∷ points) are =
+    let one = are.0 in
+    let within = one.within in (
+      record {
+        one = one.one;
+        is_there = one.is_there;
+        within = omega (arith, within, length-append h later);
+        point_is = one.point_is ∙ sym (take-append-le one.one.point h later within);
+      },
+      listed_still h later reports (number + 2) points are.1,
+    )

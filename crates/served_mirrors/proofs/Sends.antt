@@ -1,8 +1,9 @@
 -- What a server still sends on a connection, by what it still has to read there. However the connection ends, its
 -- output is a prefix of the replies to the first requests, followed by bytes that grant nothing: a failure, a
 -- refusal, or nothing.
-use Rattle.std.proofs.Common.{◌≡◌, ◌≢◌, ◌≤◌, ◌⊎◌, ◌+◌, ℕ, List, [], ◌∷◌, ◌++◌, length, Bool, true, false, refl, sym, ap, ◌∙◌, subst, inl, inr, append-nil, arith}
+use Rattle.std.proofs.Common.{◌≡◌, ◌≢◌, ◌⊎◌, ◌+◌, ℕ, List, [], ◌∷◌, ◌++◌, length, Bool, true, false, refl, sym, ap, ◌∙◌, subst, inl, inr, append-nil, arith}
 use Rattle.std.specs.List.{AllByRecursion}
+use Rattle.std.specs.Prelude.{⊤}
 use Rattle.item_model.specs.declared.changes.Entry.{Entry}
 use Rattle.http_heads.specs.declared.refusal.HeadError.{HeadError}
 use Rattle.http_heads.specs.declared.refusal.HeadError.TheVariants.{BodyTooLarge, Head, HeadTooLarge, Length, Memory as NoMemory}
@@ -13,7 +14,7 @@ use Rattle.http_front.specs.ReplyHeads.{HasReason, reply_head_text}
 use Rattle.http_client.proofs.ReplyLaws.{none_in_nothing}
 use Rattle.http_client.proofs.StatusRead.{text_status}
 use Rattle.http_client.specs.Replies.{IsReply, Reply}
-use Rattle.reply_bytes.specs.ReplyBytes.{failure_bytes, refusal_bytes, status_of}
+use Rattle.reply_bytes.specs.ReplyBytes.{failure_bytes, refusal_bytes}
 use Rattle.share_asks.specs.declared.ask.Ask.{Ask}
 use Rattle.share_asks.specs.declared.ask.Role.{Role}
 use Rattle.share_asks.specs.declared.form.BodyForm.TheVariants.{NoBody}
@@ -21,12 +22,12 @@ use Rattle.share_replies.specs.Settings.{Settings}
 use Rattle.share_server.specs.declared.report.LinkEnd.{LinkEnd}
 use Rattle.share_server.specs.declared.report.LinkEnd.TheVariants.{Closed, Cut, FileFault, LinkFault, Memory, Refused, Spent, Stopped}
 use Rattle.share_server.specs.declared.report.Served.{Served}
-use Rattle.share_server.specs.Ends.{Breaks, EndsAtEnd, EndsInside, IsCutOf, Parts, WantsMemory, all, all_told, in_its_place, refusing, replying, wanting, without_last}
+use Rattle.share_server.specs.Ends.{Breaks, EndsAtEnd, EndsInside, Parts, WantsMemory, all, all_told, in_its_place, refusing, replying, wanting, without_last}
 use Rattle.share_server.specs.Passes.{Rises}
 use Rattle.share_server.specs.Replies.{replies, replies_from}
 use Rattle.share_server.specs.Served.{AreServed}
 use Rattle.share_server.proofs.Endings.{parts_served}
-use Rattle.served_mirrors.specs.Links.{AnsweredAll, IsSuccess, ServedLink}
+use Rattle.served_mirrors.specs.Links.{AnsweredAll, IsReport, IsSuccess, ServedLink}
 
 -- ---- bytes that grant nothing
 
@@ -66,9 +67,14 @@ refusal_grants_nothing NoMemory = failure_grants_nothing
 abbrev pub IsComplete : (rest tail : List ℕ) → List Served → Type 0
 IsComplete rest tail served = (rest ≡ []) × (tail ≡ []) × AllByRecursion IsSuccess served
 
--- Requests that were served from history length `low`, counted from `n`, and the bytes that answer them. If `all`,
--- there are no others.
-pub record Left (s : Settings) (by limit : ℕ) (role : Role) (h : List Entry) (all : Bool) (low n : ℕ) (input bytes : List ℕ) : Type 0 where
+-- each is one of these reports
+abbrev pub AreAmong : List Served → List Served → Type 0
+AreAmong [] reports = ⊤
+AreAmong (v ∷ served) reports = IsReport v reports × AreAmong served reports
+
+-- Requests of the reports that were served from history length `low`, counted from `n`, and the bytes that answer them.
+-- `front` are the reports before theirs. If `all`, there are no others.
+pub record Left (s : Settings) (by limit : ℕ) (role : Role) (h : List Entry) (reports : List Served) (all : Bool) (low n : ℕ) (input bytes : List ℕ) : Type 0 where
   pub asks : List Ask
   pub rest : List ℕ
   pub served : List Served
@@ -76,6 +82,11 @@ pub record Left (s : Settings) (by limit : ℕ) (role : Role) (h : List Entry) (
   pub joins : Joins role input asks rest
   pub are_served : AreServed s by h asks served
   pub rises : Rises low served (length h)
+  pub among : AreAmong served reports
+  pub front : List Served
+  pub others : List Served
+  pub there : reports ≡ front ++ (served ++ others)
+  pub count : length front + 1 ≡ n
   pub whole : bytes ≡ replies_from s limit h n asks served ++ tail
   pub nothing : GrantsNothing tail
   pub complete : all ≡ true → IsComplete rest tail served
@@ -86,10 +97,22 @@ rises_before : (low high : ℕ) (served : List Served) (last : Served) → Rises
 rises_before low high [] last rises = omega (arith, rises.0, rises.1)
 rises_before low high (v ∷ served) last rises = (rises.0, rises_before v.point high served last rises.1)
 
-module _ (s : Settings) (by limit : ℕ) (role : Role) (h : List Entry) (input output : List ℕ) (x : ServedLink s by limit role h input output) where
+among_more : (v : Served) (served reports : List Served) → AreAmong served reports → AreAmong served (v ∷ reports)
+among_more v [] reports among = tt
+among_more v (u ∷ served) reports among = (inr among.0, among_more v served reports among.1)
+
+among_first : (served others : List Served) → AreAmong served (served ++ others)
+among_first [] others = tt
+among_first (v ∷ served) others = (inl refl, among_more v served (served ++ others) (among_first served others))
+
+among_all : (served : List Served) → AreAmong served served
+among_all served = subst (λ (reports : List Served). AreAmong served reports) (append-nil served) (among_first served [])
+
+module _ (s : Settings) (by limit : ℕ) (role : Role) (h : List Entry) (input output : List ℕ) (x : ServedLink s by limit role h input output)
+    (low : ℕ) (rises : Rises low x.served (length h)) where
   -- there are bytes that would complete the output
   abbrev Sends : Type 0
-  Sends = (missing : List ℕ) × Left s by limit role h false 0 1 input (output ++ missing)
+  Sends = (missing : List ℕ) × Left s by limit role h x.served false low 1 input (output ++ missing)
 
   sends_all : (missing tail : List ℕ) → output ++ missing ≡ replies s limit h x.asks x.served ++ tail → GrantsNothing tail → Sends
   sends_all missing tail whole nothing = (
@@ -101,7 +124,12 @@ module _ (s : Settings) (by limit : ℕ) (role : Role) (h : List Entry) (input o
       tail = tail;
       joins = x.joins;
       are_served = x.are_served;
-      rises = x.rises;
+      rises = rises;
+      among = among_all x.served;
+      front = [];
+      others = [];
+      there = sym (append-nil x.served);
+      count = refl;
       whole = whole;
       nothing = nothing;
       complete = λ e. absurd (cc e);
@@ -119,7 +147,12 @@ module _ (s : Settings) (by limit : ℕ) (role : Role) (h : List Entry) (input o
           tail = tail;
           joins = before.1;
           are_served = (parts_served s by h x.asks x.served parts x.are_served).0;
-          rises = rises_before 0 (length h) parts.earlier parts.last (subst (λ (served : List Served). Rises 0 served (length h)) parts.served_are x.rises);
+          rises = rises_before low (length h) parts.earlier parts.last (subst (λ (served : List Served). Rises low served (length h)) parts.served_are rises);
+          among = subst (λ (served : List Served). AreAmong parts.earlier served) (sym parts.served_are) (among_first parts.earlier (parts.last ∷ []));
+          front = [];
+          others = parts.last ∷ [];
+          there = parts.served_are;
+          count = refl;
           whole = whole;
           nothing = nothing;
           complete = λ e. absurd (cc e);
@@ -165,12 +198,12 @@ module _ (s : Settings) (by limit : ℕ) (role : Role) (h : List Entry) (input o
   by_end (inl ends) = sends_inside x.end ends
   by_end (inr ends) = sends_at_end x.end ends
 
-pub link_sends : (s : Settings) (by limit : ℕ) (role : Role) (h : List Entry) (input output : List ℕ) → ServedLink s by limit role h input output
-    → (missing : List ℕ) × Left s by limit role h false 0 1 input (output ++ missing)
-link_sends s by limit role h input output x = by_end s by limit role h input output x x.how
+pub link_sends : (s : Settings) (by limit : ℕ) (role : Role) (h : List Entry) (input output : List ℕ) (x : ServedLink s by limit role h input output)
+    (low : ℕ) → Rises low x.served (length h) → (missing : List ℕ) × Left s by limit role h x.served false low 1 input (output ++ missing)
+link_sends s by limit role h input output x low rises = by_end s by limit role h input output x low rises x.how
 
-pub link_sends_all : (s : Settings) (by limit : ℕ) (role : Role) (h : List Entry) (input output : List ℕ) → AnsweredAll s by limit role h input output
-    → Left s by limit role h true 0 1 input output
+pub link_sends_all : (s : Settings) (by limit : ℕ) (role : Role) (h : List Entry) (input output : List ℕ) → (x : AnsweredAll s by limit role h input output)
+    → Left s by limit role h x.served true 0 1 input output
 link_sends_all s by limit role h input output x = record {
   asks = x.asks;
   rest = [];
@@ -179,6 +212,11 @@ link_sends_all s by limit role h input output x = record {
   joins = x.joins;
   are_served = x.are_served;
   rises = x.rises;
+  among = among_all x.served;
+  front = [];
+  others = [];
+  there = sym (append-nil x.served);
+  count = refl;
   whole = x.written ∙ sym (append-nil (replies s limit h x.asks x.served));
   nothing = nothing_grants_nothing;
   complete = λ e. (refl, refl, x.granted);

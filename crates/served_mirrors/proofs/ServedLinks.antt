@@ -1,7 +1,7 @@
 -- Connections that were served to their ends.
-use Rattle.std.proofs.Common.{◌≡◌, ◌≤◌, ◌⊎◌, ◌+◌, ◌-◌, ℕ, List, [], ◌∷◌, ◌++◌, length, sym, subst, arith}
+use Rattle.std.proofs.Common.{◌≤◌, ◌⊎◌, ◌-◌, ℕ, List, [], ◌∷◌, length, sym, subst, arith}
 use Rattle.item_model.specs.declared.changes.Entry.{Entry}
-use Rattle.daap_outside.specs.Places.{Returned}
+use Rattle.outside_net.specs.Places.{Returned}
 use Rattle.share_asks.specs.declared.ask.Role.{Role}
 use Rattle.share_replies.specs.Settings.{Settings}
 use Rattle.http_front.specs.Readings.{Joins}
@@ -12,7 +12,7 @@ use Rattle.share_server.specs.Passes.{Rises}
 use Rattle.share_server.specs.Serving.{limit_of}
 use Rattle.share_workers.specs.Works.{LinksAt}
 use Rattle.served_mirrors.specs.Laws.{EndedLinksAreServed, WorkersLinksAreServed}
-use Rattle.served_mirrors.specs.Links.{AreServedLinks, ServedLink}
+use Rattle.served_mirrors.specs.Links.{AreServedLinks}
 
 -- lengths that increase from one also do from a lower one
 rises_from : (low least high : ℕ) (served : List Served) → least ≤ low → Rises low served high → Rises least served high

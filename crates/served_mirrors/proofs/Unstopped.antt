@@ -1,9 +1,8 @@
 -- A client whose requests were all answered with success stops at none of the replies.
-use Rattle.std.proofs.Common.{◌≡◌, ◌≤◌, ◌⊎◌, ◌==◌, ◌+◌, ℕ, List, [], ◌∷◌, ◌++◌, take, Bool, true, false, cond, is_some, length, Option, Some, None, refl, sym, ap, ◌∙◌, subst, inl, inr, append_assoc, append-nil, arith}
+use Rattle.std.proofs.Common.{◌≡◌, ◌⊎◌, ◌==◌, ◌+◌, ℕ, List, [], ◌∷◌, ◌++◌, take, Bool, true, false, cond, is_some, length, Option, Some, None, refl, sym, ap, ◌∙◌, subst, inl, inr, append_assoc, append-nil, arith}
 use Rattle.std.specs.Prelude.{MatchBool}
 use Rattle.dmap_tags.specs.Codes.{code}
 use Rattle.dmap_tags.specs.Spelling.{spelling}
-use Rattle.dmap_tags.specs.Tree.{Tree}
 use Rattle.code_table.specs.declared.row.CodeRow.{CodeRow}
 use Rattle.code_table.specs.Reply.{table_reply}
 use Rattle.code_table.specs.Standard.{standard_rows}
@@ -12,7 +11,7 @@ use Rattle.http_front.specs.Readings.{Joins, Reading, reading}
 use Rattle.http_front.proofs.ReadingLaws.{first_ask, one_reading, reading_of_joined}
 use Rattle.http_client.specs.Replies.{Reply}
 use Rattle.http_client.specs.Requests.{request_text}
-use Rattle.reply_bytes.specs.ReplyBytes.{failure_bytes, reply_bytes}
+use Rattle.reply_bytes.specs.ReplyBytes.{failure_bytes}
 use Rattle.share_asks.specs.declared.ask.Ask.{Ask}
 use Rattle.share_asks.specs.declared.ask.Role.{Role}
 use Rattle.share_asks.specs.declared.ask.Want.{Want}
@@ -50,7 +49,7 @@ use Rattle.served_mirrors.proofs.Asking.{codes_back, codes_say, login_back, logi
 use Rattle.served_mirrors.proofs.Meeting.{written_before}
 use Rattle.served_mirrors.proofs.Points.{IsPrefix, answered_between, prefix_both, prefix_revision, prefix_taken, prefix_whole}
 use Rattle.served_mirrors.proofs.Sends.{IsComplete, Left, link_sends_all}
-use Rattle.served_mirrors.proofs.Standing.{KnowsShare, Stands, base_word, walk}
+use Rattle.served_mirrors.proofs.Standing.{Stands, base_word, walk}
 
 -- ---- the reply to the last request
 
@@ -92,8 +91,8 @@ serves_so s by h w v last bytes rest is_served granted is_due whole = by_status 
       spelled = whole ∙ ap (λ (a : Answer). answer_bytes a last ++ rest) how.replies;
     }
 
-module _ (s : Settings) (by limit : ℕ) (role : Role) (h : List Entry) (low n : ℕ) (host : List ℕ) (w : Want) (says : List Entry → Reply) (input bytes : List ℕ) where
-  next_begins : IsWhole h → ReadsBack role host w → Says s w says → IsDue s w → request_text w host ≡ input → Left s by limit role h true low n input bytes
+module _ (s : Settings) (by limit : ℕ) (role : Role) (h : List Entry) (reports : List Served) (low n : ℕ) (host : List ℕ) (w : Want) (says : List Entry → Reply) (input bytes : List ℕ) where
+  next_begins : IsWhole h → ReadsBack role host w → Says s w says → IsDue s w → request_text w host ≡ input → Left s by limit role h reports true low n input bytes
       → NextBegins h low says bytes
   next_begins whole back tells is_due same x =
       by_first x.asks x.served (subst (λ (text : List ℕ). Joins role text x.asks x.rest) (sym same ∙ sym (append-nil (request_text w host))) x.joins) x.are_served x.rises x.whole (x.complete refl)
@@ -138,31 +137,31 @@ module _ (s : Settings) (by limit : ℕ) (role : Role) (h : List Entry) (low n :
 
 -- ---- in each stage
 
-module _ (host : List ℕ) (m : Mirrored) (rounds : ℕ) (s : Settings) (by limit : ℕ) (role : Role) (h : List Entry) (whole : IsWhole h) (zero : m.held.revision ≡ 0) (can : CanBeAsked host m)
+module _ (host : List ℕ) (m : Mirrored) (rounds : ℕ) (s : Settings) (by limit : ℕ) (role : Role) (h : List Entry) (reports : List Served) (whole : IsWhole h) (can : CanBeAsked host m)
     (request bytes : List ℕ) (p : Point) (taken : Option (List ℕ)) (e : FollowError) (owed : p.owed ≡ Some bytes) where
-  from_begun : Stands host m rounds s by limit role h true Begun request bytes → due host m rounds Begun ≡ Some request → Stops request (UnexpectedIn m rounds Begun) p taken e → IsOutside e
+  from_begun : Stands host m rounds s by limit role h reports [] true Begun request bytes → due host m rounds Begun ≡ Some request → Stops request (UnexpectedIn m rounds Begun) p taken e → IsOutside e
   from_begun st is_due stops =
       let same : request_text want.Codes host ≡ request = cc in
-      let next = next_begins s by limit role h st.low st.n host want.Codes (λ p. (200, spelling (table_reply standard_rows))) request bytes whole
+      let next = next_begins s by limit role h reports st.low st.n host want.Codes (λ p. (200, spelling (table_reply standard_rows))) request bytes whole
       (codes_back role host can.host_is) (codes_say s) (λ p. refl) same st.left in
       stops_outside request UnexpectedTable p taken e bytes next.rest (200, spelling (table_reply standard_rows)) owed next.begins (λ used u. table_due used e u) stops
 
-  from_learned : (rows : List CodeRow) → Stands host m rounds s by limit role h true (Learned rows) request bytes → due host m rounds (Learned rows) ≡ Some request
+  from_learned : (rows : List CodeRow) → Stands host m rounds s by limit role h reports [] true (Learned rows) request bytes → due host m rounds (Learned rows) ≡ Some request
       → Stops request (UnexpectedIn m rounds (Learned rows)) p taken e → IsOutside e
   from_learned rows st is_due stops =
       let same : request_text want.Login host ≡ request = cc in
-      let next = next_begins s by limit role h st.low st.n host want.Login (λ p. (200, spelling (login_body (next_session p)))) request bytes whole
+      let next = next_begins s by limit role h reports st.low st.n host want.Login (λ p. (200, spelling (login_body (next_session p)))) request bytes whole
       (login_back role host can.host_is) (login_says s) (λ p. refl) same st.left in
       stops_outside request (UnexpectedNumber (code "mlid") rows) p taken e bytes next.rest (200, spelling (login_body (next_session next.point))) owed next.begins
       (λ used u. number_due (code "mlid") rows (login_body (next_session next.point)) (next_session next.point) used e st.knows (login_tag next.point next.whole) refl u) stops
 
-  from_asking : (k : Known) (ls : List Listing) → Stands host m rounds s by limit role h true (Asking k ls) request bytes → due host m rounds (Asking k ls) ≡ Some request
+  from_asking : (k : Known) (ls : List Listing) → Stands host m rounds s by limit role h reports [] true (Asking k ls) request bytes → due host m rounds (Asking k ls) ≡ Some request
       → Stops request (UnexpectedIn m rounds (Asking k ls)) p taken e → IsOutside e
   from_asking k ls st is_due stops =
       let same : request_text (want.Rows k.session m.target (mirror_look m.query m.meta (held_after m.held ls).revision)) host ≡ request = cc in
-      let next = next_begins s by limit role h st.low st.n host (want.Rows k.session m.target (mirror_look m.query m.meta (held_after m.held ls).revision))
+      let next = next_begins s by limit role h reports st.low st.n host (want.Rows k.session m.target (mirror_look m.query m.meta (held_after m.held ls).revision))
       (λ p. (200, spelling (listing_body s.keep p m.target (mirror_look m.query m.meta (held_after m.held ls).revision)))) request bytes whole
-      (rows_back role host m k.session (held_after m.held ls).revision can st.knows.session (base_word host m rounds s by limit role h true whole st.low k ls st.knows))
+      (rows_back role host m k.session (held_after m.held ls).revision can st.knows.session (base_word host m rounds s by limit role h reports [] true whole st.low k ls st.knows))
       (rows_say s k.session m.target m.query m.meta (held_after m.held ls).revision) (λ p. refl) same st.left in
       let before = st.knows.earlier in
       stops_outside request (UnexpectedListing k.rows (with_listings m ls)) p taken e bytes next.rest
@@ -170,24 +169,24 @@ module _ (host : List ℕ) (m : Mirrored) (rounds : ℕ) (s : Settings) (by limi
       (λ used u. listing_due s.keep k.rows (with_listings m ls) next.point used e st.knows.standard
       (omega (arith, before, prefix_revision (take st.low h) next.point next.above)) next.whole u) stops
 
-  from_holding : (k : Known) (ls : List Listing) (last : Bool) → Stands host m rounds s by limit role h true (Holding k ls) request bytes
+  from_holding : (k : Known) (ls : List Listing) (last : Bool) → Stands host m rounds s by limit role h reports [] true (Holding k ls) request bytes
       → Some (request_text (behind_round last k (with_listings m ls)) host) ≡ Some request → Stops request (UnexpectedAfter last k) p taken e → IsOutside e
   from_holding k ls true st is_due stops =
       let same : request_text (want.Logout k.session) host ≡ request = cc in
-      let next = next_begins s by limit role h st.low st.n host (want.Logout k.session) (λ p. (204, [])) request bytes whole
+      let next = next_begins s by limit role h reports st.low st.n host (want.Logout k.session) (λ p. (204, [])) request bytes whole
       (logout_back role host k.session can.host_is st.knows.session) (logout_says s k.session) (λ p. refl) same st.left in
       stops_outside request UnexpectedEnd p taken e bytes next.rest (204, []) owed next.begins (λ used u. end_due used e u) stops
   from_holding k ls false st is_due stops =
       let same : request_text (want.Update k.session (held_after m.held ls).revision) host ≡ request = cc in
-      let next = next_begins s by limit role h st.low st.n host (want.Update k.session (held_after m.held ls).revision) (λ p. (200, spelling (revision_body (revision (batches p)))))
+      let next = next_begins s by limit role h reports st.low st.n host (want.Update k.session (held_after m.held ls).revision) (λ p. (200, spelling (revision_body (revision (batches p)))))
       request bytes whole
-      (update_back role host k.session (held_after m.held ls).revision can.host_is st.knows.session (base_word host m rounds s by limit role h true whole st.low k ls st.knows))
+      (update_back role host k.session (held_after m.held ls).revision can.host_is st.knows.session (base_word host m rounds s by limit role h reports [] true whole st.low k ls st.knows))
       (update_says s k.session (held_after m.held ls).revision) (λ p. refl) same st.left in
       stops_outside request (UnexpectedNumber (code "musr") k.rows) p taken e bytes next.rest (200, spelling (revision_body (revision (batches next.point)))) owed next.begins
       (λ used u. number_due (code "musr") k.rows (revision_body (revision (batches next.point))) (revision (batches next.point)) used e st.knows.standard
       (revision_tag next.point next.whole) refl u) stops
 
-  from_stage : (t : Stage) → Stands host m rounds s by limit role h true t request bytes → due host m rounds t ≡ Some request → Stops request (UnexpectedIn m rounds t) p taken e → IsOutside e
+  from_stage : (t : Stage) → Stands host m rounds s by limit role h reports [] true t request bytes → due host m rounds t ≡ Some request → Stops request (UnexpectedIn m rounds t) p taken e → IsOutside e
   from_stage Begun st is_due stops = from_begun st is_due stops
   from_stage (Learned rows) st is_due stops = from_learned rows st is_due stops
   from_stage (Asking k ls) st is_due stops = from_asking k ls st is_due stops
@@ -197,11 +196,26 @@ module _ (host : List ℕ) (m : Mirrored) (rounds : ℕ) (s : Settings) (by limi
 pub followers_are_not_stopped : FollowersAreNotStopped
 followers_are_not_stopped host m rounds p taken e now s by limit role h input output x written zero can whole nothing is owed answered =
     let split = written_before p.taken x.there.taken taken (requests x.walks.exchanges) x.request input nothing is x.walks.went.written written in
-    let left = subst (λ (bs : List ℕ). Left s by limit role h true 0 1 bs output) split.1 (link_sends_all s by limit role h input output answered) in
+    let left = subst (λ (bs : List ℕ). Left s by limit role h answered.served true 0 1 bs output) split.1 (link_sends_all s by limit role h input output answered) in
     let read = owed_split p.owed x.there.owed output (messages x.walks.exchanges) owed x.walks.went.read in
-    let begun : Stands host m rounds s by limit role h true Begun (requests x.walks.exchanges ++ x.request) output =
-    record { low = 0; n = 1; left = left; knows = tt; points = []; rise = ((h, refl), tt); answers = tt; base = zero } in
-    from_stage host m rounds s by limit role h whole zero can x.request read.0 x.there taken e
+    let begun : Stands host m rounds s by limit role h answered.served [] true Begun (requests x.walks.exchanges ++ x.request) output =
+    record {
+      low = 0;
+      n = 1;
+      left = left;
+      count = refl;
+      knows = tt;
+      least = omega (arith, zero);
+      points = [];
+      rise = (([], refl), ((h, refl), tt));
+      listed = tt;
+      behind = tt;
+      new = tt;
+      has_new = tt;
+      answers = tt;
+      base = refl;
+    } in
+    from_stage host m rounds s by limit role h answered.served whole can x.request read.0 x.there taken e
     (left_owed p.owed x.there.owed output (messages x.walks.exchanges) owed x.walks.went.read) x.stage
-    (walk host m rounds s by limit role h true whole zero can Begun x.stage x.walks.exchanges x.request output read.0 begun x.walks.path x.walks.went.answered read.1)
+    (walk host m rounds s by limit role h answered.served [] true whole can Begun x.stage x.walks.exchanges x.request output read.0 begun x.walks.path x.walks.went.answered read.1)
     x.is_due x.stops

@@ -1,21 +1,16 @@
--- What a mirror holds that followed a share over a connection which that share served. The bytes that the mirror
--- wrote are those that the server read, and the bytes that the mirror had to read are those that the server wrote.
--- The history may have grown since.
-use Rattle.std.specs.Prelude.{◌≡◌, ◌≤◌, ◌⊎◌, ℕ, List, [], ◌++◌, Option, Some}
+-- What a mirror holds that followed a share over a connection which that share served. The history may have grown since.
+use Rattle.std.specs.Prelude.{◌≡◌, ◌⊎◌, ℕ, List, [], ◌++◌, Option, Some}
 use Rattle.std.specs.Io.KnownBytes.{Appends}
 use Rattle.item_model.specs.declared.changes.Entry.{Entry}
-use Rattle.daap_outside.specs.Places.{Returned}
+use Rattle.outside_net.specs.Places.{Returned}
 use Rattle.item_model.specs.declared.query.Query.{Query}
 use Rattle.item_model.specs.declared.request.Meta.{Meta}
 use Rattle.share_asks.specs.declared.ask.Role.{Role}
-use Rattle.share_history.specs.Listings.{Listing}
 use Rattle.share_replies.specs.Settings.{Settings}
-use Rattle.mirror_core.specs.declared.mirror.Applied.{Applied}
 use Rattle.mirror_core.specs.Mirrored.{Mirrored}
 use Rattle.mirror_client.specs.declared.refusal.FollowError.{FollowError}
 use Rattle.mirror_client.specs.declared.refusal.FollowError.TheVariants.{LinkFault, Memory}
 use Rattle.mirror_client.specs.Points.{Point}
-use Rattle.mirror_client.specs.Runs.{Followed}
 use Rattle.mirror_client.specs.Stages.{Begun, Stage, StopsFrom, Walks, listings_in}
 use Rattle.mirror_client.specs.Steps.{with_listings}
 use Rattle.share_server.specs.declared.report.LinkReport.{LinkReport}
@@ -24,39 +19,21 @@ use Rattle.share_server.specs.declared.report.LinkEnd.{LinkEnd}
 use Rattle.share_server.specs.Links.{LinkEnded}
 use Rattle.share_server.specs.Passes.{Pass}
 use Rattle.share_workers.specs.Works.{Works}
-use Rattle.followed_shares.specs.Laws.{last_revision, rows_at}
 use Rattle.share_history.specs.Whole.{IsWhole}
 use Rattle.served_mirrors.specs.Examples.{IsServedOnce, new_mirror}
 use Rattle.served_mirrors.specs.Links.{AnsweredAll, AreServedLinks, ServedLink}
-use Rattle.served_mirrors.specs.Mirrors.{CanBeAsked, HoldsTheShare}
+use Rattle.served_mirrors.specs.Mirrors.{BeganWell, CanBeAsked, HoldsTheShare}
 
--- A mirror that began at revision 0 and followed to the end holds what the share had at the last listing. Its rows
--- are those that the query selects at the revision of the last round.
-abbrev pub FollowersHoldTheShare : Type 0
-FollowersHoldTheShare =
-    (host : List ℕ) (m : Mirrored) (rounds : ℕ) (p : Point) (taken : Option (List ℕ)) (applied : List Applied) (now : Mirrored)
-    (s : Settings) (by limit : ℕ) (role : Role) (h later : List Entry) (input output : List ℕ)
-    → (f : Followed host m rounds p taken applied now) → 1 ≤ rounds → m.held.revision ≡ 0 → CanBeAsked host m → IsWhole h
-    → p.taken ≡ Some [] → taken ≡ Some input → p.owed ≡ Some output → ServedLink s by limit role h input output
-    → HoldsTheShare s (h ++ later) m f.listings now × (now.held.rows ≡ rows_at (h ++ later) m.target m.query m.meta (last_revision applied))
-
--- A mirror that stopped, for whatever reason, holds what the share had at the last listing that it applied.
-abbrev pub StoppedMirrorsHoldTheShare : Type 0
-StoppedMirrorsHoldTheShare =
-    (host : List ℕ) (m : Mirrored) (rounds : ℕ) (p : Point) (taken : Option (List ℕ)) (e : FollowError) (now : Mirrored)
-    (s : Settings) (by limit : ℕ) (role : Role) (h later : List Entry) (input output : List ℕ)
-    → (x : StopsFrom host m rounds Begun p taken e now) → m.held.revision ≡ 0 → CanBeAsked host m → IsWhole h
-    → p.taken ≡ Some [] → taken ≡ Some input → p.owed ≡ Some output → ServedLink s by limit role h input output
-    → HoldsTheShare s (h ++ later) m (listings_in x.stage) now
-
--- So does a mirror in any stage, which may have written a part of its next request.
+-- A mirror in any stage, which may have written a part of its next request, holds what the share had at the last listing
+-- that it applied. It may have held what the share had before. The connection may have broken with bytes under way: the
+-- server read a prefix of what the mirror wrote, and the mirror had a prefix of the output to read.
 abbrev pub WalkersHoldTheShare : Type 0
 WalkersHoldTheShare =
     (host : List ℕ) (m : Mirrored) (rounds : ℕ) (p : Point) (t : Stage) (there : Point)
-    (s : Settings) (by limit : ℕ) (role : Role) (h later : List Entry) (sent part output : List ℕ)
-    → Walks host m rounds Begun p t there → m.held.revision ≡ 0 → CanBeAsked host m → IsWhole h
-    → p.taken ≡ Some [] → there.taken ≡ Some sent → p.owed ≡ Some output → ServedLink s by limit role h (sent ++ part) output
-    → HoldsTheShare s (h ++ later) m (listings_in t) (with_listings m (listings_in t))
+    (s : Settings) (by limit : ℕ) (role : Role) (h later : List Entry) (sent part input lost output owed dropped : List ℕ)
+    → Walks host m rounds Begun p t there → (link : ServedLink s by limit role h input output) → BeganWell m h link.served → CanBeAsked host m → IsWhole h
+    → p.taken ≡ Some [] → there.taken ≡ Some sent → p.owed ≡ Some owed → sent ++ part ≡ input ++ lost → output ≡ owed ++ dropped
+    → HoldsTheShare s by (h ++ later) link.served m (listings_in t) (with_listings m (listings_in t))
 
 -- A connection with known bytes that was served to its end is a `ServedLink`.
 abbrev pub EndedLinksAreServed : Type 0

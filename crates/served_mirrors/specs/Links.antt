@@ -2,7 +2,7 @@
 use Rattle.std.specs.Prelude.{◌≡◌, ◌⊎◌, ⊤, ℕ, List, [], ◌∷◌, length}
 use Rattle.std.specs.List.{AllByRecursion}
 use Rattle.item_model.specs.declared.changes.Entry.{Entry}
-use Rattle.daap_outside.specs.Places.{Returned}
+use Rattle.outside_net.specs.Places.{Returned}
 use Rattle.share_asks.specs.declared.ask.Ask.{Ask}
 use Rattle.share_asks.specs.declared.ask.Role.{Role}
 use Rattle.share_replies.specs.Settings.{Settings}
@@ -48,3 +48,8 @@ AreServedLinks s by role h [] (returned ∷ returns) = ⊥
 AreServedLinks s by role h (input ∷ inputs) [] = ⊥
 AreServedLinks s by role h (input ∷ inputs) (returned ∷ returns) =
     ((limit : ℕ) × ServedLink s by limit role h input returned.0) × AreServedLinks s by role h inputs returns
+
+-- it is one of these reports
+abbrev pub IsReport : Served → List Served → Type 0
+IsReport v [] = ⊥
+IsReport v (first ∷ rest) = (v ≡ first) ⊎ IsReport v rest

@@ -1,21 +1,11 @@
 //! Theorems about all mirrors and the shares that they follow. Each function has an empty body; its contract is the
 //! theorem.
 
-ghost use Rattle.served_mirrors.specs.Laws.{EndedLinksAreServed, FollowersAreNotStopped, FollowersHoldTheShare, MirrorsAreServed, StoppedMirrorsHoldTheShare, WalkersHoldTheShare, WorkersLinksAreServed};
+ghost use Rattle.served_mirrors.specs.Laws.{EndedLinksAreServed, FollowersAreNotStopped, MirrorsAreServed, WalkersHoldTheShare, WorkersLinksAreServed};
 
-/// A mirror that followed a share to the end holds all rows that its query selects, at the revision of its last
-/// round. Each listing that it applied is the share's at a length of the one history, and these lengths never
-/// decrease.
-pub fn followers_hold_the_share()
-    ensures { FollowersHoldTheShare }
-{}
-
-/// A mirror that stopped holds what the share had at the last listing that it applied.
-pub fn stopped_mirrors_hold_the_share()
-    ensures { StoppedMirrorsHoldTheShare }
-{}
-
-/// So does a mirror that still follows, in each of its stages.
+/// A mirror that follows a share, in each of its stages, holds what the share had at the last listing that it applied.
+/// Each of its listings is the share's at a length of the one history, the first at or after the login, and each other one
+/// at a higher revision than the one before.
 pub fn walkers_hold_the_share()
     ensures { WalkersHoldTheShare }
 {}

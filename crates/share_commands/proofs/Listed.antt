@@ -20,5 +20,5 @@ listed_ends query meta target told outcome look edits history asked opened (inl 
     by_output (list_meaning query meta target) (list_sense query meta target) told outcome (Some history) (listing_bytes edits target look)
     (record { look = look; edits = edits; asked = asked; opened = opened; written = refl }) done
 listed_ends query meta target told outcome look edits history asked opened (inr want) =
-    by_memory (list_meaning query meta target) (list_sense query meta target).sensible told told.output_before outcome [] (Some history) tt (inr (edits, opened)) refl
+    by_memory (list_meaning query meta target) (list_sense query meta target).sensible told told.output_before outcome [] (Some history) tt tt (inr (edits, opened)) refl
     (none_written told.output_before) want

@@ -1,16 +1,17 @@
 -- Why `replay` stops before it opens a share.
 use Rattle.std.proofs.Common.{◌≡◌, ◌+◌, ◌<◌, ◌≤◌, ℕ, List, Global, Vec, length, IfSome, Err, refl}
 use Rattle.std.specs.Io.KnownBytes.{Consumes, IsAtEnd}
-use Rattle.daap_outside.specs.Reading.{ConsumesUpTo, CountsReadFaults}
-use Rattle.daap_outside.specs.declared.reading.ReadError.{ReadError}
-use Rattle.daap_outside.specs.declared.reading.ReadError.TheVariants as reads
+use Rattle.outside_net.specs.Reading.{ConsumesUpTo, CountsReadFaults}
+use Rattle.outside_net.specs.declared.reading.ReadError.{ReadError}
+use Rattle.outside_net.specs.declared.reading.ReadError.TheVariants as reads
 use Rattle.command_core.specs.Causes.{StopsBy}
 use Rattle.command_core.specs.declared.fault.Fault.TheVariants.{Own}
 use Rattle.command_core.specs.Seen.{InputSeen}
 use Rattle.command_core.proofs.Reading.{all_read_on, failed_within, of_input, past_limit}
 use Rattle.command_core.specs.Faults.{read_fault}
 use Rattle.share_replay.specs.Scripts.{script_of}
-use Rattle.share_commands.specs.ReplayShare.{IsBad, ReplayReadsOn, replay_cause, script_limit}
+use Rattle.share_commands.specs.ReadScript.{script_limit}
+use Rattle.share_commands.specs.ReplayShare.{IsBad, ReplayReadsOn, replay_cause}
 use Rattle.share_commands.specs.declared.replay.ReplayFault.TheVariants.{Line, TooLong}
 
 pub unread : (before after : InputSeen) (e : ReadError) → (e ≡ reads.Failed → ConsumesUpTo script_limit before.left after.left)

@@ -1,15 +1,19 @@
 -- The specification of `replay` is sensible: an input has one status, and no error if the command succeeds.
-use Rattle.std.proofs.Common.{◌≡◌, ℕ, List, inl, refl, sym, subst, arith}
+use Rattle.std.proofs.Common.{◌≡◌, ℕ, List, None, inl, refl, sym, subst, arith}
 use Rattle.std.specs.Prelude.{Result, Ok, Err}
 use Rattle.command_core.specs.declared.fault.Fault.{Fault}
 use Rattle.command_core.specs.declared.fault.Fault.TheVariants.{Own, Read, Memory}
-use Rattle.command_core.specs.Seen.{Seen, ShareSeen}
+use Rattle.command_core.specs.declared.outcome.Outcome.{Outcome}
+use Rattle.command_core.specs.Answers.{TellsFault, TellsMemory}
+use Rattle.command_core.specs.Seen.{Seen, ShareSeen, Told}
 use Rattle.command_core.specs.Causes.{Says}
 use Rattle.command_core.proofs.Reading.{read_whole}
 use Rattle.command_core.proofs.Sensible.{IsSensible}
 use Rattle.share_replay.specs.Scripts.{script_of}
 use Rattle.share_replay.specs.declared.delivery.Delivery.{Delivery}
-use Rattle.share_commands.specs.ReplayShare.{IsScript, ReadsAs, ReplayLeaves, ReplayWrote, replay_cause, replay_meaning, replay_status}
+use Rattle.share_replies.specs.Settings.{Settings}
+use Rattle.share_commands.specs.ReadScript.{ReadsAs}
+use Rattle.share_commands.specs.ReplayShare.{IsScript, LeavesMoment, ReplayLeaves, ReplayWrote, replay_cause, replay_line, replay_meaning, replay_status, settings_of}
 use Rattle.share_commands.specs.declared.replay.ReplayFault.{ReplayFault}
 use Rattle.share_commands.specs.declared.replay.ReplayFault.TheVariants.{TooLong, Line}
 
@@ -39,6 +43,14 @@ leaves keep name before after (Own own) share l = inl l
 leaves keep name before after Read share l = inl l
 leaves keep name before after Memory share l = l
 
+-- if no share was opened, only the line of an error was written
+pub unplayed : (s : Settings) (told : Told) (outcome : Outcome) (fault : Fault ReplayFault) → TellsFault replay_line replay_status fault told.output_before told.output_after outcome
+    → LeavesMoment s told outcome outcome.history
+unplayed s told outcome fault tells = subst (LeavesMoment s told outcome) (sym tells.unopened) (fault, tells)
+
+pub unplayed_idle : (s : Settings) (told : Told) (outcome : Outcome) → TellsMemory None told.output_before told.output_after outcome → LeavesMoment s told outcome outcome.history
+unplayed_idle s told outcome t = unplayed s told outcome Memory (record { unopened = t.history; told = inl t.told })
+
 pub replay_sense : (keep : ℕ) (name : List ℕ) → IsSensible (replay_meaning keep name)
 replay_sense keep name = record {
   wants = λ before after fault cause. tt;
@@ -47,6 +59,7 @@ replay_sense keep name = record {
   idle = λ seen. tt;
   idle_front = λ seen. inl refl;
   idle_share = λ seen. inl refl;
+  idle_always = λ told outcome same t. unplayed_idle (settings_of keep name) told outcome t;
   one_status = one_replay_status;
   not_both = no_replay_fault;
   given = λ input before after share output told played. record {

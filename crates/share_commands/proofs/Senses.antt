@@ -108,6 +108,7 @@ list_sense query meta target = record {
     idle = λ seen. tt;
     idle_front = λ seen. refl;
     idle_share = λ seen. inl refl;
+    idle_always = λ told outcome same t. tt;
     one_status = one_list_status query meta target;
     not_both = no_list_fault query meta target;
     given = λ input before after share output told done. record {
@@ -121,6 +122,7 @@ list_sense query meta target = record {
   begun = λ before after share output done. done;
   front = λ before after fault. refl;
   unopened = none_opened target;
+  always = λ told outcome. tt;
 }
 
 -- ---- rehearse
@@ -159,6 +161,7 @@ rehearse_sense number batches size keep = record {
     idle = λ seen. record { left = refl; faults = refl };
     idle_front = λ seen. refl;
     idle_share = λ seen. inl refl;
+    idle_always = λ told outcome same t. tt;
     one_status = λ input one other says said. one_rehearse_status one other;
     not_both = few_or_many batches size;
     given = λ input before after share output told done. done.within;
@@ -166,4 +169,5 @@ rehearse_sense number batches size keep = record {
   begun = λ before after share output done. done;
   front = λ before after fault. refl;
   unopened = none_begun number batches size;
+  always = λ told outcome. tt;
 }

@@ -3,5 +3,6 @@ pub mod ListShare
 pub mod LookFaults
 pub mod Openings
 pub mod RehearseShare
-pub mod ReplayShare
+pub mod ReadScript
 pub mod Moments
+pub mod ReplayShare

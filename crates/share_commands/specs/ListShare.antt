@@ -22,7 +22,7 @@ use Rattle.command_core.specs.declared.outcome.Outcome.{Outcome}
 use Rattle.command_core.specs.Answers.{TellsDone, TellsMemory}
 use Rattle.command_core.specs.Seen.{InputSeen, OutputSeen, Seen, ShareSeen, no_share, share_with}
 use Rattle.command_core.specs.Causes.{Cause, OfWords, OfInput, StopsBy}
-use Rattle.command_core.specs.Meanings.{Meaning, writes_nothing_before, may_read}
+use Rattle.command_core.specs.Meanings.{Meaning, writes_nothing_before, may_read, says_no_more}
 use Rattle.share_commands.specs.declared.list.ListFault.{ListFault}
 use Rattle.share_commands.specs.declared.list.ListFault.TheVariants.{Query, Meta, TooLong, Records, TooManyLists, NoList}
 use Rattle.command_core.specs.declared.records.InputFault.{InputFault}
@@ -122,13 +122,16 @@ list_meaning query meta target = record {
   is_front = writes_nothing_before;
   leaves = ListLeaves target;
   may_want = may_read;
-  leaves_files = true;
-  leaves_net = true;
+  always = says_no_more;
 }
 
 -- why `list` stops before it opens a share; an allocation may fail at any time
 abbrev pub StopsListing : (query meta : Option (List ℕ)) → Target → InputSeen → InputSeen → Fault ListFault → Type 0
 StopsListing query meta target before after stop = StopsBy (list_cause query meta target) (ListReadsOn query meta) (Unit {0}) before after stop
+
+-- .. before it reads any input, whatever that and the target are
+abbrev pub StopsBeforeReading : (query meta : Option (List ℕ)) → Fault ListFault → Type 0
+StopsBeforeReading query meta stop = (target : Target) (input : InputSeen) → StopsListing query meta target input input stop
 
 -- .. once its arguments are read
 abbrev pub StopsOpening : Target → InputSeen → InputSeen → Fault ListFault → Type 0

@@ -1,7 +1,7 @@
 -- What `replay` leaves once it opened a share: the history, the count of answered requests and what the output took are
 -- of one moment of the replay.
 use Rattle.std.specs.Prelude.{◌≡◌, ◌⊎◌, ℕ, List, []}
-use Rattle.daap_outside.specs.Told.{AppendsPrefix}
+use Rattle.outside_net.specs.Told.{AppendsPrefix}
 use Rattle.item_model.specs.declared.changes.Entry.{Entry}
 use Rattle.share_replies.specs.Settings.{Settings}
 use Rattle.share_replay.specs.Machine.{script_bytes, script_history}
@@ -11,7 +11,7 @@ use Rattle.command_core.specs.Answers.{Tells}
 use Rattle.command_core.specs.Endings.{IsCut, IsWritten}
 use Rattle.command_core.specs.Faults.{memory_line}
 use Rattle.command_core.specs.Seen.{InputSeen, OutputSeen}
-use Rattle.share_commands.specs.ReplayShare.{IsRead}
+use Rattle.share_commands.specs.ReadScript.{IsRead}
 
 -- the whole script was played, and the output took all that the share answered
 pub record EndsWhole (s : Settings) (lines : List Delivery) (before after : OutputSeen) (status : ℕ) (history : List Entry) : Type 0 where

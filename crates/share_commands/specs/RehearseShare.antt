@@ -1,5 +1,5 @@
 -- The command `rehearse`: made-up batches edit a share while mirrors follow it, and a summary is written.
-use Rattle.std.specs.Prelude.{◌≡◌, ◌<◌, ◌≤◌, ◌*◌, ◌⊎◌, ◌++◌, ◌∷◌, [], ℕ, List, true, codes}
+use Rattle.std.specs.Prelude.{◌≡◌, ◌<◌, ◌≤◌, ◌*◌, ◌⊎◌, ◌++◌, ◌∷◌, [], ℕ, List, codes}
 use Rattle.item_model.specs.declared.changes.Entry.{Entry}
 use Rattle.share_history.specs.Numbers.{most_edits}
 use Rattle.rehearsal.specs.Edits.{rehearsed}
@@ -9,7 +9,7 @@ use Rattle.command_core.specs.declared.fault.Fault.{Fault}
 use Rattle.command_core.specs.declared.fault.Fault.TheVariants as fault
 use Rattle.command_core.specs.Seen.{InputSeen, Seen, ShareSeen, no_share, share_with, IsUnread}
 use Rattle.command_core.specs.Causes.{Cause, OfWords}
-use Rattle.command_core.specs.Meanings.{Meaning, writes_nothing_before, may_not_read}
+use Rattle.command_core.specs.Meanings.{Meaning, writes_nothing_before, may_not_read, says_no_more}
 use Rattle.share_commands.specs.declared.rehearse.RehearseFault.{RehearseFault}
 use Rattle.share_commands.specs.declared.rehearse.RehearseFault.TheVariants.{TooMany}
 
@@ -72,6 +72,5 @@ rehearse_meaning number batches size keep = record {
   is_front = writes_nothing_before;
   leaves = RehearseLeaves number batches size;
   may_want = may_not_read;
-  leaves_files = true;
-  leaves_net = true;
+  always = says_no_more;
 }

@@ -1,7 +1,8 @@
 -- The command `replay`: plays a script to a new share and writes what the share answers; or reports the first error of
 -- the input: its length, or its first bad line.
-use Rattle.std.specs.Prelude.{◌≡◌, ◌<◌, ◌≤◌, ◌⊎◌, ◌++◌, ◌∷◌, [], ℕ, List, length, take, Ok, Err, true, codes, decimal}
-use Rattle.std.specs.Io.KnownBytes.{Consumes, IsAtEnd}
+use Rattle.std.specs.Prelude.{◌≡◌, ◌<◌, ◌≤◌, ◌⊎◌, ◌++◌, ◌∷◌, [], ℕ, List, length, take, Err, Option, MatchOption, codes, decimal}
+use Rattle.item_model.specs.declared.changes.Entry.{Entry}
+use Rattle.share_replies.specs.Answers.{Shared}
 use Rattle.share_replies.specs.Settings.{Settings}
 use Rattle.share_replay.specs.Machine.{script_bytes, script_history}
 use Rattle.share_replay.specs.Played.{broken_at}
@@ -9,36 +10,27 @@ use Rattle.share_replay.specs.Scripts.{script_of}
 use Rattle.share_replay.specs.declared.delivery.Delivery.{Delivery}
 use Rattle.command_core.specs.declared.fault.Fault.{Fault}
 use Rattle.command_core.specs.declared.fault.Fault.TheVariants as fault
-use Rattle.command_core.specs.Seen.{InputSeen, Seen, ShareSeen, no_share, share_with}
+use Rattle.command_core.specs.declared.outcome.Outcome.{Outcome}
+use Rattle.command_core.specs.Answers.{TellsFault}
+use Rattle.command_core.specs.Seen.{InputSeen, Seen, ShareSeen, Told, no_share, share_with}
 use Rattle.command_core.specs.Causes.{Cause, OfInput}
 use Rattle.command_core.specs.Meanings.{Meaning, may_read}
+use Rattle.share_commands.specs.Moments.{IsOfOneMoment}
+use Rattle.share_commands.specs.ReadScript.{IsRead, ReadsAs, script_limit}
 use Rattle.share_commands.specs.declared.replay.ReplayFault.{ReplayFault}
 use Rattle.share_commands.specs.declared.replay.ReplayFault.TheVariants.{TooLong, Line}
-
--- the input may have at most 64 MiB
-abbrev pub script_limit : ℕ
-script_limit = 67108864
 
 abbrev pub settings_of : (keep : ℕ) → (name : List ℕ) → Settings
 settings_of keep name = record { name = name; keep = keep }
 
--- the input, within its limit, is this script
-pub record ReadsAs (lines : List Delivery) (input : List ℕ) : Type 0 where
-  pub within : length input ≤ script_limit
-  pub read : script_of input ≡ Ok lines
+-- a share that nothing has changed, and that no session has read
+abbrev pub new_share : (keep : ℕ) → (name : List ℕ) → Shared
+new_share keep name = record { settings = settings_of keep name; history = []; marks = [] }
 
 -- the input is within its limit, and `line` is its first that is not a line of a script
 pub record IsBad (line : ℕ) (input : List ℕ) : Type 0 where
   pub within : length input ≤ script_limit
   pub bad : script_of input ≡ Err line
-
--- the input was read to its end, without an error, as this script
-pub record IsRead (lines : List Delivery) (before after : InputSeen) : Type 0 where
-  pub bytes : List ℕ
-  pub read : Consumes before.left after.left bytes
-  pub end : IsAtEnd after.left
-  pub faultless : after.faults ≡ before.faults
-  pub script : ReadsAs lines bytes
 
 -- the script was played to a new share, which has this history, and the output is what the share answered
 pub record IsPlayed (keep : ℕ) (name : List ℕ) (before after : InputSeen) (share : ShareSeen) (output : List ℕ) : Type 0 where
@@ -99,6 +91,12 @@ pub record IsScript (input : List ℕ) : Type 0 where
   pub lines : List Delivery
   pub reads : ReadsAs lines input
 
+-- What is left is of one moment of the replay. If no share was opened, only the line of an error was written.
+abbrev pub LeavesMoment : Settings → Told → Outcome → (history : Option (List Entry)) → Type 0
+LeavesMoment s told outcome history =
+    MatchOption history ((fault : Fault ReplayFault) × TellsFault replay_line replay_status fault told.output_before told.output_after outcome)
+    (λ h. IsOfOneMoment s told.before.input told.after.input told.output_before told.output_after outcome.status h)
+
 abbrev pub replay_meaning : (keep : ℕ) → (name : List ℕ) → Meaning
 replay_meaning keep name = record {
   fault = ReplayFault;
@@ -112,6 +110,5 @@ replay_meaning keep name = record {
   is_front = ReplayWrote keep name;
   leaves = ReplayLeaves keep name;
   may_want = may_read;
-  leaves_files = true;
-  leaves_net = true;
+  always = λ told outcome. LeavesMoment (settings_of keep name) told outcome outcome.history;
 }

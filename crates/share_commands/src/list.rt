@@ -3,7 +3,7 @@
 ghost use Rattle.std.specs.Prelude.{◌≡◌, ◌≤◌, List, length, Some, option_copied, IfOk, IfErr};
 ghost use Rattle.item_model.specs.declared.changes.Edit.{Edit};
 ghost use Rattle.listing_plan.specs.Plans.{plan_bytes, IsWritable};
-ghost use Rattle.command_core.specs.Seen.{Around, input_seen, output_seen, told_beside, share_with};
+ghost use Rattle.command_core.specs.Seen.{Around, input_of, output_of, told_beside, share_with};
 ghost use Rattle.command_core.specs.Answers.{TellsDone};
 ghost use Rattle.command_core.specs.Endings.{IsAnswered};
 ghost use Rattle.share_commands.specs.ListShare.{listing_bytes, IsOpened, StopsOpening, TellsListed, list_line, list_status, input_fault, library_fault, list_meaning};
@@ -12,11 +12,11 @@ ghost use Rattle.share_commands.specs.Openings.{HasOpened};
 use crate::look::look_of;
 use crate::opening::{Opened, open};
 use command_core::{Fault, InputFault, Outcome, Refusal, out_of_memory, read_records, write_error};
-use daap_outside::{Failed, Sink, Source};
 use dmap_tags::Text;
 use fault_lines::{query_line, records_line};
 use item_model::{Entries, Look, QueryError, Target};
 use listing_plan::Plan;
+use outside_net::{Failed, Sink, Source};
 use records_import::RecordError;
 use share_history::MAX_LISTS;
 use share_listings::{full_target, is_there};
@@ -73,36 +73,41 @@ pub fn list_share<I: Source, W: Sink>(
     input: &mut I,
     output: &mut W,
 ) -> Outcome
-    ensures { (around : Around) → IsAnswered (list_meaning (option_copied query.entry) (option_copied meta.entry) target)
+    ensures { (around : Around)
+        → IsAnswered (list_meaning (option_copied query.entry) (option_copied meta.entry) target)
         (told_beside around
-        (input_seen (I.left input.old) (I.faults input.old))
-        (input_seen (I.left input.new) (I.faults input.new))
-        (output_seen (W.taken output.old) (W.faults output.old))
-        (output_seen (W.taken output.new) (W.faults output.new)))
+        (input_of I.Source input.old)
+        (input_of I.Source input.new)
+        (output_of W.Sink output.old)
+        (output_of W.Sink output.new))
         result }
 {
     let look = match look_of(alloc, query, meta) {
         Ok(look) => look,
         Err(fault) => return write_error(alloc, output, &fault),
     };
-    match opened(alloc, target, input) {
-        Ok(opened) => listed(alloc, opened, target, look, output),
+    match open_checked(alloc, target, input) {
+        Ok(opened) => write_listed(alloc, opened, target, look, output),
         Err(fault) => write_error(alloc, output, &fault),
     }
 }
 
 /// Opens a share with the batch of the input's records, if it has the target.
-fn opened<I: Source>(
+fn open_checked<I: Source>(
     alloc: Global,
     target: Target,
     input: &mut I,
 ) -> Result<Opened, Fault<ListFault>>
     ensures opened { IfOk result (λ opened. (edits : List Edit)
-        × IsOpened edits target (input_seen (I.left input.old) (I.faults input.old)) (input_seen (I.left input.new) (I.faults input.new)) (share_with opened.history)
-        × HasOpened edits opened × (length edits ≤ 65536)) }
+        × IsOpened edits target
+        (input_of I.Source input.old)
+        (input_of I.Source input.new)
+        (share_with opened.history)
+        × HasOpened edits opened
+        × (length edits ≤ 65536)) }
     ensures cause { IfErr result (λ fault. StopsOpening target
-        (input_seen (I.left input.old) (I.faults input.old))
-        (input_seen (I.left input.new) (I.faults input.new))
+        (input_of I.Source input.old)
+        (input_of I.Source input.new)
         fault) }
 {
     let batch = match read_records(alloc, input) {
@@ -118,7 +123,8 @@ fn opened<I: Source>(
 
 /// Returns why the share is not listed: it has too many lists, or no such target.
 fn library_fault(opened: &Opened, target: Target) -> Option<ListFault>
-    ensures { (edits : List Edit) → HasOpened edits opened.now → result ≡ library_fault edits target }
+    ensures { (edits : List Edit) → HasOpened edits opened.now
+        → result ≡ library_fault edits target }
 {
     if opened.lists.count() as usize > MAX_LISTS {
         return Some(ListFault::TooManyLists);
@@ -142,7 +148,7 @@ fn input_fault(fault: Fault<InputFault>) -> Fault<ListFault>
 }
 
 /// Writes the listing of an open share. However that ends, the outcome has the share's history.
-fn listed<W: Sink>(
+fn write_listed<W: Sink>(
     alloc: Global,
     opened: Opened,
     target: Target,
@@ -151,21 +157,28 @@ fn listed<W: Sink>(
 ) -> Outcome
     requires { (edits : List Edit) × HasOpened edits opened × (length edits ≤ 65536) }
     ensures history { result.history ≡ Some opened.history }
-    ensures told { (edits : List Edit) → HasOpened edits opened → TellsListed opened.history (listing_bytes edits target look)
-        (output_seen (W.taken output.old) (W.faults output.old))
-        (output_seen (W.taken output.new) (W.faults output.new))
+    ensures told { (edits : List Edit) → HasOpened edits opened
+        → TellsListed opened.history (listing_bytes edits target look)
+        (output_of W.Sink output.old)
+        (output_of W.Sink output.new)
         result }
 {
-    match planned(alloc, &opened, target, look) {
+    match plan_listing(alloc, &opened, target, look) {
         Ok(listing) => write_listing(output, &listing, opened.history),
         Err(AllocError) => out_of_memory(output, Some(opened.history)),
     }
 }
 
 /// Plans the listing of `target` for `look`.
-fn planned(alloc: Global, opened: &Opened, target: Target, look: Look) -> Result<Plan, AllocError>
+fn plan_listing(
+    alloc: Global,
+    opened: &Opened,
+    target: Target,
+    look: Look,
+) -> Result<Plan, AllocError>
     requires { (edits : List Edit) × HasOpened edits opened.now × (length edits ≤ 65536) }
-    ensures listing { IfOk result (λ plan. (edits : List Edit) → HasOpened edits opened.now → plan_bytes plan ≡ listing_bytes edits target look) }
+    ensures listing { IfOk result (λ plan. (edits : List Edit) → HasOpened edits opened.now
+        → plan_bytes plan ≡ listing_bytes edits target look) }
     ensures writable { IfOk result (λ plan. IsWritable plan) }
 {
     full_target(alloc, &opened.items, &opened.lists, target, look)
@@ -175,8 +188,8 @@ fn planned(alloc: Global, opened: &Opened, target: Target, look: Look) -> Result
 fn write_listing<W: Sink>(output: &mut W, listing: &Plan, history: Entries) -> Outcome
     requires { IsWritable listing.now }
     ensures { TellsDone (Some history) (plan_bytes listing.now)
-        (output_seen (W.taken output.old) (W.faults output.old))
-        (output_seen (W.taken output.new) (W.faults output.new))
+        (output_of W.Sink output.old)
+        (output_of W.Sink output.new)
         result }
 {
     let status = match listing.write(output) {

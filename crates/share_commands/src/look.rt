@@ -1,11 +1,9 @@
 //! Reads the arguments of `list` that say what it shows.
 
 ghost use Rattle.std.specs.Prelude.{◌≡◌, Some, option_copied, IfOk, IfErr};
-ghost use Rattle.command_core.specs.Seen.{InputSeen};
-ghost use Rattle.item_model.specs.declared.request.Target.{Target};
 ghost use Rattle.share_commands.specs.Looks.{AsksQuery, AsksLook, meta_asked};
 ghost use Rattle.share_commands.specs.LookFaults.{IsQueryFault, IsMetaFault, query_fault, meta_fault};
-ghost use Rattle.share_commands.specs.ListShare.{StopsListing};
+ghost use Rattle.share_commands.specs.ListShare.{StopsBeforeReading};
 
 use crate::list::ListFault;
 use command_core::Fault;
@@ -20,8 +18,9 @@ pub fn look_of(
     query: Option<&Text>,
     meta: Option<&Text>,
 ) -> Result<Look, Fault<ListFault>>
-    ensures read { IfOk result (λ look. AsksLook (option_copied query.entry) (option_copied meta.entry) look) }
-    ensures refused { IfErr result (λ fault. (target : Target) (seen : InputSeen) → StopsListing (option_copied query.entry) (option_copied meta.entry) target seen seen fault) }
+    ensures read { IfOk result (AsksLook (option_copied query.entry) (option_copied meta.entry)) }
+    ensures refused { IfErr result
+        (StopsBeforeReading (option_copied query.entry) (option_copied meta.entry)) }
 {
     Ok(Look {
         query: query_of(alloc, query)?,

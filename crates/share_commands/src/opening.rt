@@ -46,7 +46,7 @@ pub fn open(alloc: Global, batch: Batch) -> Result<Opened, AllocError>
 /// Returns the items of a share that is opened with `edits`.
 fn items_of(alloc: Global, edits: &[Edit]) -> Result<ItemStore, AllocError>
     requires { AreValid edits.now }
-    ensures stands { IfOk result (λ store. StandsFor (batches (opening edits.now)) store) }
+    ensures stands { IfOk result (StandsFor (batches (opening edits.now))) }
     ensures keep { IfOk result (λ store. store.keep ≡ 1) }
 {
     let mut store = ItemStore::open(alloc, KEEP);
@@ -60,7 +60,7 @@ fn items_of(alloc: Global, edits: &[Edit]) -> Result<ItemStore, AllocError>
 fn lists_of(alloc: Global, edits: &[Edit], items: &ItemStore) -> Result<PlaylistStore, AllocError>
     requires valid { AreValid edits.now }
     requires items { StandsFor (batches (opening edits.now)) items.now }
-    ensures stands { IfOk result (λ store. lists_stand.StandsFor (batches (opening edits.now)) store) }
+    ensures stands { IfOk result (lists_stand.StandsFor (batches (opening edits.now))) }
     ensures keep { IfOk result (λ store. store.keep ≡ 1) }
 {
     lists_by::<Brand>(Blank::new(1), alloc, edits, items)
@@ -77,7 +77,7 @@ fn lists_by<L: Ledger>(
     requires any { 0 < blank.parts }
     requires valid { AreValid edits.now }
     requires items { StandsFor (batches (opening edits.now)) items.now }
-    ensures stands { IfOk result (λ store. lists_stand.StandsFor (batches (opening edits.now)) store) }
+    ensures stands { IfOk result (lists_stand.StandsFor (batches (opening edits.now))) }
     ensures keep { IfOk result (λ store. store.keep ≡ 1) }
 {
     let mut store = PlaylistStore::open(alloc, KEEP);

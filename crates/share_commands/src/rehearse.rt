@@ -1,12 +1,12 @@
 //! The command `rehearse`: edits a share with made-up batches while mirrors follow it, and writes a summary.
 
 ghost use Rattle.std.specs.Prelude.{◌≡◌, ◌≤◌};
-ghost use Rattle.command_core.specs.Seen.{Around, InputSeen, output_seen, told_beside};
+ghost use Rattle.command_core.specs.Seen.{Around, InputSeen, output_of, told_beside};
 ghost use Rattle.command_core.specs.Endings.{IsAnswered, share_of};
 ghost use Rattle.share_commands.specs.RehearseShare.{rehearse_line, rehearse_status, MayRehearse, OpensWithin, rehearse_meaning};
 
 use command_core::{Fault, Outcome, Refusal, out_of_memory, write_error, write_output};
-use daap_outside::Sink;
+use outside_net::Sink;
 use rehearsal::{Rehearsal, rehearse};
 use share_history::MAX_EDITS;
 use std::alloc::{AllocError, Global};
@@ -43,10 +43,11 @@ pub fn rehearse_share<W: Sink>(
     output: &mut W,
 ) -> Outcome
     requires { MayRehearse number batches size keep }
-    ensures answered { (around : Around) (input : InputSeen) → IsAnswered (rehearse_meaning number batches size keep)
+    ensures answered { (around : Around) (input : InputSeen)
+        → IsAnswered (rehearse_meaning number batches size keep)
         (told_beside around input input
-        (output_seen (W.taken output.old) (W.faults output.old))
-        (output_seen (W.taken output.new) (W.faults output.new)))
+        (output_of W.Sink output.old)
+        (output_of W.Sink output.new))
         result }
     ensures opened { OpensWithin number batches size (share_of result) }
 {

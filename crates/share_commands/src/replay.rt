@@ -1,21 +1,19 @@
 //! The command `replay`: plays a script to a new share, and writes what the share answers.
 
-ghost use Rattle.std.specs.Prelude.{◌≡◌, ◌≤◌, ◌++◌, ◌∷◌, [], List, Some, length, codes, decimal, IfOk, IfErr, MatchOption};
+ghost use Rattle.std.specs.Prelude.{◌≡◌, ◌≤◌, ◌++◌, ◌∷◌, [], List, Some, length, codes, decimal, IfOk, IfErr};
 ghost use Rattle.item_model.specs.Limits.{text_limit};
 ghost use Rattle.item_model.specs.declared.changes.Entry.{Entry};
-ghost use Rattle.command_core.specs.declared.fault.Fault.{Fault};
-ghost use Rattle.command_core.specs.Answers.{TellsFault};
 ghost use Rattle.command_core.specs.Causes.{StopsBy};
 ghost use Rattle.command_core.specs.Endings.{IsAnswered};
-ghost use Rattle.command_core.specs.Seen.{Around, input_seen, output_seen, told_beside};
-ghost use Rattle.share_commands.specs.declared.replay.ReplayFault.{ReplayFault};
-ghost use Rattle.share_commands.specs.Moments.{EndsPlay, IsOfOneMoment};
-ghost use Rattle.share_commands.specs.ReplayShare.{IsRead, ReplayReadsOn, replay_cause, replay_line, replay_meaning, replay_status, settings_of};
+ghost use Rattle.command_core.specs.Seen.{Around, input_of, output_of, told_beside};
+ghost use Rattle.share_commands.specs.Moments.{EndsPlay};
+ghost use Rattle.share_commands.specs.ReadScript.{IsRead};
+ghost use Rattle.share_commands.specs.ReplayShare.{ReplayReadsOn, new_share, replay_cause, replay_line, replay_meaning, replay_status};
 
 use command_core::{Fault, Outcome, Refusal, out_of_memory, read_fault, write_error};
-use daap_outside::{Sink, Source, read_within};
 use item_model::{Batch, Edits, Entries};
 use itoa::Buffer;
+use outside_net::{Sink, Source, read_within};
 use share_core::{OpenError, Share};
 use share_replay::{ReplayError, Script, ScriptError, replay};
 use std::alloc::{AllocError, Global};
@@ -74,43 +72,32 @@ pub fn replay_script<I: Source, W: Sink>(
     requires some { 1 ≤ keep }
     requires window { keep ≤ 65536 }
     requires short { length name.now ≤ text_limit }
-    ensures answered { (around : Around) → IsAnswered (replay_meaning keep name.now)
+    ensures { (around : Around) → IsAnswered (replay_meaning keep name.now)
         (told_beside around
-        (input_seen (I.left input.old) (I.faults input.old))
-        (input_seen (I.left input.new) (I.faults input.new))
-        (output_seen (W.taken output.old) (W.faults output.old))
-        (output_seen (W.taken output.new) (W.faults output.new)))
+        (input_of I.Source input.old)
+        (input_of I.Source input.new)
+        (output_of W.Sink output.old)
+        (output_of W.Sink output.new))
         result }
-
-    // If no share was opened, only the line of an error is written.
-    ensures played { MatchOption result.history
-        ((fault : Fault ReplayFault) × TellsFault replay_line replay_status fault
-        (output_seen (W.taken output.old) (W.faults output.old))
-        (output_seen (W.taken output.new) (W.faults output.new))
-        result)
-        (λ history. IsOfOneMoment (settings_of keep name.now)
-        (input_seen (I.left input.old) (I.faults input.old))
-        (input_seen (I.left input.new) (I.faults input.new))
-        (output_seen (W.taken output.old) (W.faults output.old))
-        (output_seen (W.taken output.new) (W.faults output.new))
-        result.status history) }
 {
     let script = match script_of(alloc, input) {
         Ok(script) => script,
         Err(fault) => return write_error(alloc, output, &fault),
     };
-    match opened(alloc, keep, name) {
-        Ok(share) => played(alloc, &script, share, output),
+    match open_empty(alloc, keep, name) {
+        Ok(share) => play(alloc, &script, share, output),
         Err(AllocError) => out_of_memory(output, None),
     }
 }
 
 /// Reads the input to its end. Returns its script.
 fn script_of<I: Source>(alloc: Global, input: &mut I) -> Result<Script, Fault<ReplayFault>>
-    ensures read { IfOk result (λ script. IsRead script (input_seen (I.left input.old) (I.faults input.old)) (input_seen (I.left input.new) (I.faults input.new))) }
+    ensures read { IfOk result (λ script. IsRead script
+        (input_of I.Source input.old)
+        (input_of I.Source input.new)) }
     ensures cause { IfErr result (λ fault. StopsBy replay_cause ReplayReadsOn (Unit {0})
-        (input_seen (I.left input.old) (I.faults input.old))
-        (input_seen (I.left input.new) (I.faults input.new))
+        (input_of I.Source input.old)
+        (input_of I.Source input.new)
         fault) }
 {
     let bytes = match read_within(alloc, input, SCRIPT_LIMIT) {
@@ -125,11 +112,11 @@ fn script_of<I: Source>(alloc: Global, input: &mut I) -> Result<Script, Fault<Re
 }
 
 /// Opens a share with an empty history.
-fn opened(alloc: Global, keep: u32, name: &str) -> Result<Share, AllocError>
+fn open_empty(alloc: Global, keep: u32, name: &str) -> Result<Share, AllocError>
     requires some { 1 ≤ keep }
     requires window { keep ≤ 65536 }
     requires short { length name.now ≤ text_limit }
-    ensures { IfOk result (λ share. share ≡ record { settings = settings_of keep name.now; history = []; marks = [] }) }
+    ensures { IfOk result (λ share. share ≡ new_share keep name.now) }
 {
     let first = Batch {
         edits: Edits::new(alloc),
@@ -141,12 +128,12 @@ fn opened(alloc: Global, keep: u32, name: &str) -> Result<Share, AllocError>
 }
 
 /// Plays the script. Returns the status and the history of the share.
-fn played<W: Sink>(alloc: Global, script: &Script, mut share: Share, output: &mut W) -> Outcome
+fn play<W: Sink>(alloc: Global, script: &Script, mut share: Share, output: &mut W) -> Outcome
     requires { share.history ≡ [] }
     ensures { (history : List Entry) × (result.history ≡ Some history)
         × EndsPlay share.settings script.now
-        (output_seen (W.taken output.old) (W.faults output.old))
-        (output_seen (W.taken output.new) (W.faults output.new))
+        (output_of W.Sink output.old)
+        (output_of W.Sink output.new)
         result.status history }
 {
     match replay(alloc, script, &mut share, output) {

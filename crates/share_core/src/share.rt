@@ -179,8 +179,8 @@ impl Share {
     ///
     /// # Errors
     ///
-    /// Returns `AllocError` if an allocation fails. The share is then unchanged: all allocations precede the first
-    /// change.
+    /// Returns `AllocError` if an allocation fails. The share is then unchanged: the stores that applied a batch before
+    /// the allocation failed undo it.
     pub fn answer<L: Ledger>(
         &mut self,
         by: u32,
@@ -195,6 +195,8 @@ impl Share {
         ensures marked { IfOk result (IsMarked self.old.history) }
         ensures cost { steps.new ≤ steps.old + want_ticks self.old.settings.keep self.old.history ask.now.want }
     {
+        // The order of `refusal`, except that `content_for` answers a malformed request, and after the session. A
+        // malformed request names no session, so it never gets 403, and the first refusal stays the same.
         if self.register.is_stopped() {
             return Ok(Answer::Reply(self.read(nothing(503), 0)));
         }
@@ -430,7 +432,8 @@ impl Share {
         Ok(())
     }
 
-    // Appends a batch that keeps all limits. Capacity is reserved first, so an `Err` leaves the share unchanged.
+    // Appends a batch that keeps all limits. The history's capacity is reserved before the stores apply the batch, so
+    // nothing can fail after them.
     fn add<L: Ledger>(
         &mut self,
         by: u32,

@@ -33,7 +33,7 @@ taken R D runtime allocator share rings crew = record {
 }
 
 pub taken_send : (R D : RattleType) (runtime allocator share rings crew : Lft) → IsSync R → IsSend D → IsSend (Struct (taken R D runtime allocator share rings crew))
-taken_send R D runtime allocator share rings crew sync door =
+taken_send R D runtime allocator share rings crew sync listener =
     struct_send (taken R D runtime allocator share rings crew) (
       shr_send (named 8) runtime R sync,
       (
@@ -42,7 +42,7 @@ taken_send R D runtime allocator share rings crew sync door =
           shr_send (named 10) share (lock_row share_row entry_row settings_row ghosts) lock_sync,
           (
             shr_send (named 11) rings bell_row bell.the_sync,
-            (mut_send (named 12) crew (crew_row D) (std.Vec-send (worker_row D) (worker_send D door)), tt),
+            (mut_send (named 12) crew (crew_row D) (std.Vec-send (worker_row D) (worker_send D listener)), tt),
           ),
         ),
       ),

@@ -4,9 +4,9 @@ use Rattle.std.proofs.lemmas.List.{map-append}
 use Rattle.std.proofs.lemmas.List.Elements.{Contains-append_left, Contains-append_right}
 use Rattle.std.specs.List.{AllByRecursion, AllZip, flat_map}
 use Rattle.std.specs.Prelude.{All, Contains, nat_eq}
-use Rattle.daap_outside.specs.Counts.{Rose, RisesWith}
-use Rattle.daap_outside.specs.Places.{Returned}
-use Rattle.daap_outside.specs.Told.{BeginsEmpty, Grows, GrowsByTold}
+use Rattle.outside_net.specs.Counts.{Rose, RisesWith}
+use Rattle.outside_net.specs.Places.{Returned}
+use Rattle.outside_net.specs.Told.{BeginsEmpty, Grows, GrowsByTold}
 use Rattle.item_model.specs.declared.changes.Entry.{Entry}
 use Rattle.share_lock.specs.Histories.{Continues, AreApart}
 use Rattle.share_lock.specs.Known.{numbers_of, after_join}
@@ -18,7 +18,7 @@ use Rattle.share_workers.specs.declared.worker.WorkerEnd.{WorkerEnd}
 use Rattle.share_workers.specs.declared.worker.WorkerEnd.TheVariants.{Running, Stopped, NoMoreLinks, Spent, AcceptFault, FileFault, Memory}
 use Rattle.share_workers.specs.Ends.{CountsAccepts}
 use Rattle.share_crew.specs.Verdicts.{end_number, has_end}
-use Rattle.share_crew.specs.Doors.{CountsShut}
+use Rattle.share_crew.specs.Listeners.{CountsShut}
 use Rattle.share_crew.specs.Stints.{Stint, Differ, numbers_of_all, passes_in, returns_of}
 use Rattle.share_crew.specs.Crews.{GoesOn, HasJoined, HasShut}
 use Rattle.share_crew.proofs.Nets.{grows_told, rose_then, stood_then}

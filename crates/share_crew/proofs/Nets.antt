@@ -1,7 +1,7 @@
 -- The known lists of a network and its error counter, call by call.
 use Rattle.std.proofs.Common.{◌≡◌, ◌≤◌, ℕ, List, [], ◌++◌, Option, None, Some, sym, subst, ap, ◌∙◌, arith, append_assoc, append-nil}
-use Rattle.daap_outside.specs.Counts.{Rose}
-use Rattle.daap_outside.specs.Told.{BeginsEmpty, Grows, GrowsByTold}
+use Rattle.outside_net.specs.Counts.{Rose}
+use Rattle.outside_net.specs.Told.{BeginsEmpty, Grows, GrowsByTold}
 
 module _ {A : Type 0} where
   -- what stays grows by nothing

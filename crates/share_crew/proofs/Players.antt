@@ -4,7 +4,7 @@ use Rattle.std.proofs.lemmas.Bool.{or_parts}
 use Rattle.std.proofs.lemmas.List.Elements.{All-nil, All-cons, All-append}
 use Rattle.std.specs.List.{AllByRecursion, list_any}
 use Rattle.std.specs.Prelude.{All, Contains}
-use Rattle.daap_outside.specs.Places.{Returned}
+use Rattle.outside_net.specs.Places.{Returned}
 use Rattle.item_model.specs.declared.changes.Entry.{Entry}
 use Rattle.http_front.specs.Readings.{Joins}
 use Rattle.share_asks.specs.declared.ask.Ask.{Ask}

@@ -4,8 +4,8 @@ use Rattle.std.proofs.lemmas.List.{map-append}
 use Rattle.std.proofs.lemmas.List.Elements.{All-append, All-push}
 use Rattle.std.specs.List.{AllByRecursion, AllZip}
 use Rattle.std.specs.Prelude.{All}
-use Rattle.daap_outside.specs.Places.{Returned}
-use Rattle.daap_outside.specs.Told.{BeginsEmpty}
+use Rattle.outside_net.specs.Places.{Returned}
+use Rattle.outside_net.specs.Told.{BeginsEmpty}
 use Rattle.item_model.specs.declared.changes.Entry.{Entry}
 use Rattle.share_asks.specs.declared.ask.Role.{Role}
 use Rattle.share_lock.specs.Known.{fresh}
@@ -15,22 +15,22 @@ use Rattle.share_server.specs.Passes.{Pass}
 use Rattle.share_workers.specs.declared.worker.Worker.{Worker}
 use Rattle.share_workers.specs.declared.worker.WorkerEnd.TheVariants.{Running}
 use Rattle.share_workers.specs.Ends.{WorkerServed}
-use Rattle.share_crew.specs.Doors.{IsNew}
+use Rattle.share_crew.specs.Listeners.{IsNew}
 use Rattle.share_crew.specs.Stints.{Stint, IsNumbered, passes_in}
 use Rattle.share_crew.specs.Crews.{IsHired, HasHired, HasEnded, IsStaff, IsOf}
 
 module _ {D : Type 0} where
   pub none_hired : (id : LockId) (k : Pass) (role : Role) (crew : List (Worker D)) → HasHired id k role [] crew crew
-  none_hired id k role crew = record { added = []; are = sym (append-nil crew); hired = λ n d less. absurd (omega arith); doors_are = refl; roles_are = refl }
+  none_hired id k role crew = record { added = []; are = sym (append-nil crew); hired = λ n d less. absurd (omega arith); listeners_are = refl; roles_are = refl }
 
-  pub hire_more : (id : LockId) (k : Pass) (role : Role) (doors : List D) (door : D) (before after after' : List (Worker D)) (worker : Worker D) → HasHired id k role doors before after
-      → after' ≡ after ++ worker ∷ [] → IsHired id k worker → worker.door ≡ door → worker.role ≡ role → HasHired id k role (doors ++ door ∷ []) before after'
-  hire_more id k role doors door before after after' worker h is one at role_is = record {
+  pub hire_more : (id : LockId) (k : Pass) (role : Role) (listeners : List D) (listener : D) (before after after' : List (Worker D)) (worker : Worker D) → HasHired id k role listeners before after
+      → after' ≡ after ++ worker ∷ [] → IsHired id k worker → worker.listener ≡ listener → worker.role ≡ role → HasHired id k role (listeners ++ listener ∷ []) before after'
+  hire_more id k role listeners listener before after after' worker h is one at role_is = record {
     added = h.added ++ worker ∷ [];
     are = is ∙ (ap (λ l. l ++ worker ∷ []) h.are ∙ append_assoc before h.added (worker ∷ []));
     hired = All-push (IsHired id k) h.added worker h.hired one;
-    doors_are = map-append (λ (w : Worker D). w.door) h.added (worker ∷ []) ∙ (λ i. h.doors_are i ++ at i ∷ []);
-    roles_are = map-append (λ (w : Worker D). w.role) h.added (worker ∷ []) ∙ ((λ i. h.roles_are i ++ role_is i ∷ []) ∙ sym (map-append (λ (d : D). role) doors (door ∷ [])));
+    listeners_are = map-append (λ (w : Worker D). w.listener) h.added (worker ∷ []) ∙ (λ i. h.listeners_are i ++ at i ∷ []);
+    roles_are = map-append (λ (w : Worker D). w.role) h.added (worker ∷ []) ∙ ((λ i. h.roles_are i ++ role_is i ∷ []) ∙ sym (map-append (λ (d : D). role) listeners (listener ∷ [])));
   }
 
   pub is_hired : (id : LockId) (k k' : Pass) (worker : Worker D) → k' ≡ k → IsReady id worker.pass → known worker.pass ≡ fresh (known worker.pass).number k'.settings k'.seen
@@ -46,11 +46,11 @@ module _ {D : Type 0} where
 
   -- those of one address, and then those of the other
   pub staff : (id : LockId) (k : Pass) (one other : Role) (listen edit : List D) (mid crew : List (Worker D)) → HasHired id k one listen [] mid → HasHired id k other edit mid crew
-      → IsStaff id k (map (λ door. one) listen ++ map (λ door. other) edit) (listen ++ edit) crew
+      → IsStaff id k (map (λ listener. one) listen ++ map (λ listener. other) edit) (listen ++ edit) crew
   staff id k one other listen edit mid crew h g =
       let all : crew ≡ h.added ++ g.added = g.are ∙ ap (λ l. l ++ g.added) h.are in record {
         hired = subst (All (IsHired id k)) (sym all) (All-append (IsHired id k) h.added g.added h.hired g.hired);
-        doors_are = ap (map (λ (w : Worker D). w.door)) all ∙ (map-append (λ (w : Worker D). w.door) h.added g.added ∙ (λ i. h.doors_are i ++ g.doors_are i));
+        listeners_are = ap (map (λ (w : Worker D). w.listener)) all ∙ (map-append (λ (w : Worker D). w.listener) h.added g.added ∙ (λ i. h.listeners_are i ++ g.listeners_are i));
         roles_are = ap (map (λ (w : Worker D). w.role)) all ∙ (map-append (λ (w : Worker D). w.role) h.added g.added ∙ (λ i. h.roles_are i ++ g.roles_are i));
       }
 
@@ -59,7 +59,7 @@ pub record HasStints {D : Type 0} (settings : Settings) (opening : List Entry) (
   pub stints : List (Stint settings opening)
   pub are : AllZip (IsOf written faults) stints after
   pub roles : map (λ (s : Stint settings opening). s.role) stints ≡ map (λ (w : Worker D). w.role) before
-  pub come : map (λ (s : Stint settings opening). s.to_come) stints ≡ map (λ (w : Worker D). coming w.door) before
+  pub come : map (λ (s : Stint settings opening). s.to_come) stints ≡ map (λ (w : Worker D). coming w.listener) before
   pub begun : AllByRecursion (λ (s : Stint settings opening). BeginsEmpty kept s.begun) stints
   pub numbered : AllByRecursion (IsNumbered passes) (passes_in stints)
 
@@ -69,36 +69,36 @@ module _ {D : Type 0} (settings : Settings) (opening : List Entry) (id : LockId)
   number_stays old new served = ap (λ (p : Pass). p.number) served.works.serves.stays
 
   -- a worker's stint
-  stint_of : (old new : Worker D) → k ≡ fresh 0 settings opening → IsHired id k old → IsNew written faults kept old.door → HasEnded coming written faults old new → Stint settings opening
-  stint_of old new start hired new_door served = record {
+  stint_of : (old new : Worker D) → k ≡ fresh 0 settings opening → IsHired id k old → IsNew written faults kept old.listener → HasEnded coming written faults old new → Stint settings opening
+  stint_of old new start hired new_listener served = record {
     role = old.role;
     pass = known new.pass;
-    to_come = coming old.door;
-    left = coming new.door;
-    begun = written old.door;
-    written = written new.door;
-    faults = faults new.door;
+    to_come = coming old.listener;
+    left = coming new.listener;
+    begun = written old.listener;
+    written = written new.listener;
+    faults = faults new.listener;
     reports = new.reports.items;
     end = new.end;
-    served = subst (λ (n : ℕ). WorkerServed old.role (fresh (known new.pass).number settings opening) (known new.pass) (coming old.door) (coming new.door) (written old.door) (written new.door) n (faults new.door) new.reports.items new.end) new_door.faultless
-        (subst (λ (p : Pass). WorkerServed old.role p (known new.pass) (coming old.door) (coming new.door) (written old.door) (written new.door) (faults old.door) (faults new.door) new.reports.items new.end)
+    served = subst (λ (n : ℕ). WorkerServed old.role (fresh (known new.pass).number settings opening) (known new.pass) (coming old.listener) (coming new.listener) (written old.listener) (written new.listener) n (faults new.listener) new.reports.items new.end) new_listener.faultless
+        (subst (λ (p : Pass). WorkerServed old.role p (known new.pass) (coming old.listener) (coming new.listener) (written old.listener) (written new.listener) (faults old.listener) (faults new.listener) new.reports.items new.end)
         (hired.pass ∙ ((λ i. fresh (sym (number_stays old new served) i) (start i).settings (start i).seen))) served);
   }
 
-  pub stints_of : (before after : List (Worker D)) → k ≡ fresh 0 settings opening → AllByRecursion (IsHired id k) before → AllByRecursion (λ (w : Worker D). IsNew written faults kept w.door) before
+  pub stints_of : (before after : List (Worker D)) → k ≡ fresh 0 settings opening → AllByRecursion (IsHired id k) before → AllByRecursion (λ (w : Worker D). IsNew written faults kept w.listener) before
       → AllZip (HasEnded coming written faults) before after → AllZip (λ (old new : Worker D). new.role ≡ old.role) before after → HasStints settings opening id.1 coming written faults kept before after
   unfolding stint_of
-  stints_of [] [] start hired doors served roles = record { stints = []; are = tt; roles = refl; come = refl; begun = tt; numbered = tt }
-  stints_of [] (new ∷ after) start hired doors served roles = absurd served
-  stints_of (old ∷ before) [] start hired doors served roles = absurd served
-  stints_of (old ∷ before) (new ∷ after) start hired doors served roles =
-      let rest = stints_of before after start hired.1 doors.1 served.1 roles.1 in
-      let one = stint_of old new start hired.0 doors.0 served.0 in
+  stints_of [] [] start hired listeners served roles = record { stints = []; are = tt; roles = refl; come = refl; begun = tt; numbered = tt }
+  stints_of [] (new ∷ after) start hired listeners served roles = absurd served
+  stints_of (old ∷ before) [] start hired listeners served roles = absurd served
+  stints_of (old ∷ before) (new ∷ after) start hired listeners served roles =
+      let rest = stints_of before after start hired.1 listeners.1 served.1 roles.1 in
+      let one = stint_of old new start hired.0 listeners.0 served.0 in
       let number = number_stays old new served.0 in record {
         stints = one ∷ rest.stints;
         are = (record { pass_is = refl; role_is = sym roles.0; written_is = refl; faults_are = refl; reports_are = refl; end_is = refl }, rest.are);
         roles = ap (λ l. old.role ∷ l) rest.roles;
-        come = ap (λ l. coming old.door ∷ l) rest.come;
-        begun = (doors.0.unwritten, rest.begun);
+        come = ap (λ l. coming old.listener ∷ l) rest.come;
+        begun = (listeners.0.unwritten, rest.begun);
         numbered = (subst (λ n. (1 ≤ n) × (n < id.1)) (sym number) (hired.0.some, hired.0.few), rest.numbered);
       }

@@ -3,7 +3,7 @@ use Rattle.std.proofs.Common.{◌≡◌, ℕ, List, [], ◌∷◌, map, Option, 
 use Rattle.std.proofs.lemmas.List.Elements.{recursion_from_All}
 use Rattle.std.specs.List.{AllByRecursion, AllZip}
 use Rattle.std.specs.Prelude.{All}
-use Rattle.daap_outside.specs.Places.{Returned}
+use Rattle.outside_net.specs.Places.{Returned}
 use Rattle.item_model.specs.declared.changes.Entry.{Entry}
 use Rattle.share_lock.specs.Known.{fresh}
 use Rattle.share_lock.specs.Passes.{LockId}
@@ -13,7 +13,7 @@ use Rattle.share_server.specs.Passes.{Pass}
 use Rattle.share_workers.specs.declared.worker.Worker.{Worker}
 use Rattle.share_crew.specs.declared.verdict.Verdict.{Verdict}
 use Rattle.share_crew.specs.Verdicts.{verdict_of}
-use Rattle.share_crew.specs.Doors.{IsNew}
+use Rattle.share_crew.specs.Listeners.{IsNew}
 use Rattle.share_crew.specs.Stints.{Stint, passes_in}
 use Rattle.share_crew.specs.Crews.{IsHired, IsOf, HasEnded, HasJoined, HasShut}
 use Rattle.share_crew.specs.Gathered.{HasGathered}
@@ -21,9 +21,9 @@ use Rattle.share_crew.proofs.Staffing.{stints_of}
 
 module _ {D : Type 0} where
   -- what holds of the listeners of workers
-  of_doors : (P : D → Type 0) (workers : List (Worker D)) → AllByRecursion P (map (λ (w : Worker D). w.door) workers) → AllByRecursion (λ (w : Worker D). P w.door) workers
-  of_doors P [] all = tt
-  of_doors P (w ∷ workers) all = (all.0, of_doors P workers all.1)
+  of_listeners : (P : D → Type 0) (workers : List (Worker D)) → AllByRecursion P (map (λ (w : Worker D). w.listener) workers) → AllByRecursion (λ (w : Worker D). P w.listener) workers
+  of_listeners P [] all = tt
+  of_listeners P (w ∷ workers) all = (all.0, of_listeners P workers all.1)
 
   module _ {settings : Settings} {opening : List Entry} (written : D → Option (List Returned)) (faults : D → ℕ) where
     reports_are : (stints : List (Stint settings opening)) (workers : List (Worker D)) → AllZip (IsOf written faults) stints workers
@@ -43,15 +43,15 @@ module _ {D : Type 0} where
   pub has_gathered : (settings : Settings) (opening : List Entry) (id : LockId) (k k' : Pass) (coming : D → Option (List (List ℕ))) (written : D → Option (List Returned)) (faults : D → ℕ)
       (kept : Option (List Returned)) (before after : List (Worker D)) (w w' : Option (List Returned)) (n n' : ℕ) (links : List (List LinkReport)) (verdict : Verdict)
       → k ≡ fresh 0 settings opening → All (IsHired id k) before
-      → All (IsNew written faults kept) (map (λ (one : Worker D). one.door) before) → AllZip (HasEnded coming written faults) before after → AllZip (λ (old new : Worker D). new.role ≡ old.role) before after
+      → All (IsNew written faults kept) (map (λ (one : Worker D). one.listener) before) → AllZip (HasEnded coming written faults) before after → AllZip (λ (old new : Worker D). new.role ≡ old.role) before after
       → ((stints : List (Stint settings opening)) → AllZip (IsOf written faults) stints after → HasJoined k k' (passes_in stints))
       → ((stints : List (Stint settings opening)) → AllZip (IsOf written faults) stints after → HasShut w w' n n' stints)
       → links ≡ map (λ (one : Worker D). one.reports.items) after → verdict ≡ verdict_of (map (λ (one : Worker D). one.end) after)
-      → (g : HasGathered settings opening id.1 (map (λ (one : Worker D). one.role) before) (map (λ (one : Worker D). coming one.door) before) kept w w' n n' k' links verdict)
+      → (g : HasGathered settings opening id.1 (map (λ (one : Worker D). one.role) before) (map (λ (one : Worker D). coming one.listener) before) kept w w' n n' k' links verdict)
       × AllZip (IsOf written faults) g.crew after
-  has_gathered settings opening id k k' coming written faults kept before after w w' n n' links verdict start hired doors served roles joined shut links_are verdict_is =
+  has_gathered settings opening id k k' coming written faults kept before after w w' n n' links verdict start hired listeners served roles joined shut links_are verdict_is =
       let all = stints_of settings opening id k coming written faults kept before after start (recursion_from_All (IsHired id k) before hired)
-      (of_doors (IsNew written faults kept) before (recursion_from_All (IsNew written faults kept) (map (λ (one : Worker D). one.door) before) doors)) served roles in
+      (of_listeners (IsNew written faults kept) before (recursion_from_All (IsNew written faults kept) (map (λ (one : Worker D). one.listener) before) listeners)) served roles in
       let stints : List (Stint settings opening) = all.stints in
       let given_back = shut stints all.are in (
         record {

@@ -3,8 +3,8 @@
 use Rattle.std.specs.Prelude.{◌≡◌, ◌<◌, ◌≤◌, ℕ, List, [], ◌∷◌, ◌++◌, map, All, Option}
 use Rattle.std.specs.List.{flat_map, AllByRecursion}
 use Rattle.item_model.specs.declared.changes.Entry.{Entry}
-use Rattle.daap_outside.specs.Places.{Returned}
-use Rattle.daap_outside.specs.Told.{BeginsEmpty, Grows}
+use Rattle.outside_net.specs.Places.{Returned}
+use Rattle.outside_net.specs.Told.{BeginsEmpty, Grows}
 use Rattle.share_asks.specs.declared.ask.Role.{Role}
 use Rattle.share_lock.specs.Histories.{Continues}
 use Rattle.share_lock.specs.Known.{numbers_of, fresh}
@@ -15,7 +15,7 @@ use Rattle.share_server.specs.Passes.{Pass}
 use Rattle.share_workers.specs.declared.worker.Worker.{Worker}
 use Rattle.share_workers.specs.declared.worker.WorkerEnd.TheVariants.{Running}
 use Rattle.share_workers.specs.Ends.{WorkerServed}
-use Rattle.share_crew.specs.Doors.{CountsShut}
+use Rattle.share_crew.specs.Listeners.{CountsShut}
 use Rattle.share_crew.specs.Stints.{Stint, Differ, numbers_of_all, returns_of}
 
 module _ {D : Type 0} where
@@ -29,30 +29,30 @@ module _ {D : Type 0} where
     pub running : worker.end ≡ Running
 
   -- a worker for each listener was appended
-  pub record HasHired (id : LockId) (k : Pass) (role : Role) (doors : List D) (before after : List (Worker D)) : Type 0 where
+  pub record HasHired (id : LockId) (k : Pass) (role : Role) (listeners : List D) (before after : List (Worker D)) : Type 0 where
     pub added : List (Worker D)
     pub are : after ≡ before ++ added
     pub hired : All (IsHired id k) added
-    pub doors_are : map (λ worker. worker.door) added ≡ doors
-    pub roles_are : map (λ worker. worker.role) added ≡ map (λ door. role) doors
+    pub listeners_are : map (λ worker. worker.listener) added ≡ listeners
+    pub roles_are : map (λ worker. worker.role) added ≡ map (λ listener. role) listeners
 
   -- all workers of a share, for these listeners and roles
-  pub record IsStaff (id : LockId) (k : Pass) (roles : List Role) (doors : List D) (crew : List (Worker D)) : Type 0 where
+  pub record IsStaff (id : LockId) (k : Pass) (roles : List Role) (listeners : List D) (crew : List (Worker D)) : Type 0 where
     pub hired : All (IsHired id k) crew
-    pub doors_are : map (λ worker. worker.door) crew ≡ doors
+    pub listeners_are : map (λ worker. worker.listener) crew ≡ listeners
     pub roles_are : map (λ worker. worker.role) crew ≡ roles
 
   -- a worker before and after its work
   abbrev pub HasEnded : (D → Option (List (List ℕ))) → (D → Option (List Returned)) → (D → ℕ) → Worker D → Worker D → Type 0
   HasEnded coming written faults old new =
-      WorkerServed old.role (known old.pass) (known new.pass) (coming old.door) (coming new.door) (written old.door) (written new.door) (faults old.door) (faults new.door) new.reports.items new.end
+      WorkerServed old.role (known old.pass) (known new.pass) (coming old.listener) (coming new.listener) (written old.listener) (written new.listener) (faults old.listener) (faults new.listener) new.reports.items new.end
 
   -- a worker that has ended, and its stint
   pub record IsOf {settings : Settings} {opening : List Entry} (written : D → Option (List Returned)) (faults : D → ℕ) (stint : Stint settings opening) (worker : Worker D) : Type 0 where
     pub pass_is : stint.pass ≡ known worker.pass
     pub role_is : stint.role ≡ worker.role
-    pub written_is : stint.written ≡ written worker.door
-    pub faults_are : stint.faults ≡ faults worker.door
+    pub written_is : stint.written ≡ written worker.listener
+    pub faults_are : stint.faults ≡ faults worker.listener
     pub reports_are : stint.reports ≡ worker.reports.items
     pub end_is : stint.end ≡ worker.end
 

@@ -2,8 +2,8 @@
 use Rattle.std.specs.Prelude.{◌≡◌, ℕ, List, [], map, Option}
 use Rattle.std.specs.List.{flat_map, AllByRecursion}
 use Rattle.item_model.specs.declared.changes.Entry.{Entry}
-use Rattle.daap_outside.specs.Places.{Returned}
-use Rattle.daap_outside.specs.Told.{Grows}
+use Rattle.outside_net.specs.Places.{Returned}
+use Rattle.outside_net.specs.Told.{Grows}
 use Rattle.share_asks.specs.declared.ask.Role.{Role}
 use Rattle.share_lock.specs.Known.{fresh}
 use Rattle.share_replies.specs.Settings.{Settings}
@@ -11,7 +11,7 @@ use Rattle.share_server.specs.declared.report.LinkReport.{LinkReport}
 use Rattle.share_server.specs.Passes.{Pass}
 use Rattle.share_crew.specs.declared.verdict.Verdict.{Verdict}
 use Rattle.share_crew.specs.Verdicts.{verdict_of}
-use Rattle.share_crew.specs.Doors.{CountsShut}
+use Rattle.share_crew.specs.Listeners.{CountsShut}
 use Rattle.share_crew.specs.Stints.{Stint, IsNumbered, passes_in, returns_of}
 use Rattle.share_crew.specs.Crews.{HasJoined}
 

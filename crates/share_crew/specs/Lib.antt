@@ -1,6 +1,6 @@
 pub mod Lines
 pub mod Verdicts
-pub mod Doors
+pub mod Listeners
 pub mod Stints
 pub mod Crews
 pub mod Gathered

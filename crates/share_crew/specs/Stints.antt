@@ -2,7 +2,7 @@
 use Rattle.std.specs.Prelude.{◌≡◌, ◌≢◌, ◌⊎◌, ◌≤◌, ◌<◌, ℕ, List, [], ◌∷◌, ◌++◌, map, true, ⊤, All, Contains, Option, Some, None}
 use Rattle.std.specs.List.{AllByRecursion}
 use Rattle.item_model.specs.declared.changes.Entry.{Entry}
-use Rattle.daap_outside.specs.Places.{Returned}
+use Rattle.outside_net.specs.Places.{Returned}
 use Rattle.share_asks.specs.declared.ask.Role.{Role}
 use Rattle.share_history.specs.Sessions.{is_stopped}
 use Rattle.share_lock.specs.Histories.{NoneOf, entries_of}

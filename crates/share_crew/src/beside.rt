@@ -2,7 +2,7 @@
 ghost use Rattle.std.specs.Prelude.{◌≡◌, ◌<◌, ◌≤◌, ◌-◌, ◌^◌, false, [], List, Option, map, length, All, vec_len, vec_capacity};
 ghost use Rattle.std.specs.List.{AllZip};
 ghost use Rattle.std.specs.Thread.{IsSync};
-ghost use Rattle.daap_outside.specs.Places.{Returned};
+ghost use Rattle.outside_net.specs.Places.{Returned};
 ghost use Rattle.item_model.specs.declared.changes.Entry.{Entry};
 ghost use Rattle.share_lock.specs.Known.{fresh};
 ghost use Rattle.share_lock.specs.Passes.{lock_id, passes_of, known, IsReady};
@@ -10,15 +10,15 @@ ghost use Rattle.share_replies.specs.Settings.{Settings};
 ghost use Rattle.share_server.specs.Kept.{Keeping};
 ghost use Rattle.share_workers.specs.Ends.{is_worker_loss};
 ghost use Rattle.share_crew.specs.Crews.{IsHired, HasEnded};
-ghost use Rattle.share_crew.specs.Doors.{AreNew};
+ghost use Rattle.share_crew.specs.Listeners.{AreNew};
 ghost use Rattle.share_crew.specs.Lines.{links_in, requests_in};
 ghost use Rattle.share_crew.specs.Gathered.{HasGathered};
 
 use crate::gathering::{Gathered, gather};
 use crate::opening::LockedShare;
 use crate::partner::Partner;
-use daap_outside::{Door, Net};
 use edit_keeping::Keeps;
+use outside_net::{Listener, Net};
 use share_core::Share;
 use share_lock::{Bell, ShareLock};
 use share_workers::{Worker, WorkerEnd, keep_worker, serve_all};
@@ -29,7 +29,7 @@ use std::time::Clock;
 
 /// Lets each worker serve its connections in its own thread, and `partner` work in this one. Returns when all have
 /// ended.
-pub fn work_beside<D: Door + Drop + Send, P: Partner, R: Threads + Wait + Clock + Sync>(
+pub fn work_beside<D: Listener + Drop + Send, P: Partner, R: Threads + Wait + Clock + Sync>(
     rt: &R,
     alloc: Global,
     lock: &ShareLock<Share>,
@@ -57,7 +57,7 @@ pub fn work_beside<D: Door + Drop + Send, P: Partner, R: Threads + Wait + Clock 
 
 /// Lets each worker of `crew` serve its connections in its own thread, and in this one `worker`, whose edits `keeper`
 /// keeps. Returns when all have ended.
-pub fn keep_beside<D: Door + Drop + Send, F: Keeps, R: Threads + Wait + Clock + Sync>(
+pub fn keep_beside<D: Listener + Drop + Send, F: Keeps, R: Threads + Wait + Clock + Sync>(
     rt: &R,
     alloc: Global,
     lock: &ShareLock<Share>,
@@ -110,8 +110,8 @@ pub fn run_workers<N: Net, P: Partner, R: Threads + Wait + Clock + Sync>(
     ensures lock { lock_id result.lock ≡ lock_id begun.lock }
     ensures ready { IsReady (lock_id result.lock) result.first }
     ensures gathered { (settings : Settings) (opening : List Entry) (kept : Option (List Returned))
-        → known begun.first ≡ fresh 0 settings opening → AreNew N.D.written N.D.faults kept (map (λ w. w.door) begun.room.crew.items)
-        → HasGathered settings opening (passes_of begun.lock) (map (λ w. w.role) begun.room.crew.items) (map (λ w. N.D.coming w.door) begun.room.crew.items)
+        → known begun.first ≡ fresh 0 settings opening → AreNew N.D.written N.D.faults kept (map (λ w. w.listener) begun.room.crew.items)
+        → HasGathered settings opening (passes_of begun.lock) (map (λ w. w.role) begun.room.crew.items) (map (λ w. N.D.coming w.listener) begun.room.crew.items)
         kept (N.written net.old) (N.written net.new) (N.faults net.old) (N.faults net.new) (known result.first) result.links result.verdict }
     ensures partner { P.worked (lock_id begun.lock) partner.old partner.new }
     ensures asked { N.asked net.new ≡ N.asked net.old }

@@ -2,7 +2,7 @@
 
 ghost use Rattle.std.specs.Prelude.{◌≡◌, ◌<◌, ◌≤◌, ◌+◌, ◌-◌, ◌^◌, ◌++◌, [], List, Option, map, length, All, vec_len, vec_capacity};
 ghost use Rattle.std.specs.List.{AllByRecursion, AllZip};
-ghost use Rattle.daap_outside.specs.Places.{Returned};
+ghost use Rattle.outside_net.specs.Places.{Returned};
 ghost use Rattle.item_model.specs.declared.changes.Entry.{Entry};
 ghost use Rattle.share_lock.specs.Known.{fresh};
 ghost use Rattle.share_lock.specs.Passes.{lock_id, passes_of, known, IsReady};
@@ -11,7 +11,7 @@ ghost use Rattle.share_replies.specs.Laws.{maker};
 ghost use Rattle.share_workers.specs.declared.worker.Worker.{Worker as Member};
 ghost use Rattle.share_server.specs.Passes.{Pass as Seen};
 ghost use Rattle.share_crew.specs.Crews.{IsHired, HasEnded, IsOf, HasJoined, HasShut};
-ghost use Rattle.share_crew.specs.Doors.{AreNew};
+ghost use Rattle.share_crew.specs.Listeners.{AreNew};
 ghost use Rattle.share_crew.specs.Lines.{links_in, requests_in};
 ghost use Rattle.share_crew.specs.Stints.{Stint, IsHistoryOf, IsNumbered, passes_in};
 ghost use Rattle.share_crew.specs.Gathered.{HasGathered};
@@ -19,7 +19,7 @@ ghost use Rattle.share_crew.specs.Gathered.{HasGathered};
 use crate::opening::{LockedShare, WorkerBuffers};
 use crate::outcome::LinkReports;
 use crate::verdict::{Verdict, verdict_of};
-use daap_outside::Net;
+use outside_net::Net;
 use share_core::Share;
 use share_lock::{Pass, ShareLock};
 use share_server::LinkReport;
@@ -46,10 +46,10 @@ pub fn gather<N: Net>(net: &mut N, begun: LockedShare<N::D>) -> Gathered
     ensures ready { IsReady (lock_id result.lock) result.first }
     ensures gathered { (settings : Settings) (opening : List Entry) (kept : Option (List Returned)) (before : List (Member N.D))
         → known begun.first ≡ fresh 0 settings opening → All (IsHired (lock_id begun.lock) (known begun.first)) before
-        → AreNew N.D.written N.D.faults kept (map (λ w. w.door) before)
+        → AreNew N.D.written N.D.faults kept (map (λ w. w.listener) before)
         → AllZip (HasEnded N.D.coming N.D.written N.D.faults) before begun.room.crew.items
         → AllZip (λ old new. new.role ≡ old.role) before begun.room.crew.items
-        → (g : HasGathered settings opening (passes_of begun.lock) (map (λ w. w.role) before) (map (λ w. N.D.coming w.door) before)
+        → (g : HasGathered settings opening (passes_of begun.lock) (map (λ w. w.role) before) (map (λ w. N.D.coming w.listener) before)
         kept (N.written net.old) (N.written net.new) (N.faults net.old) (N.faults net.new) (known result.first) result.links result.verdict)
         × AllZip (IsOf N.D.written N.D.faults) g.crew begun.room.crew.items }
     ensures asked { N.asked net.new ≡ N.asked net.old }
@@ -98,13 +98,13 @@ fn join_each<N: Net>(
     for worker in crew {
         let Worker {
             pass,
-            door,
+            listener,
             role: _,
             reports,
             end: _,
         } = worker;
         lock.join(first, pass);
-        net.shut(door);
+        net.close_listener(listener);
         links.push_reserved(reports);
     }
 }

@@ -18,21 +18,21 @@ pub fn add_workers<D: Drop, R: Wait>(
     alloc: Global,
     lock: &ShareLock<Share>,
     first: &mut Pass<Share>,
-    doors: Vec<D>,
+    listeners: Vec<D>,
     role: Role,
     crew: &mut Vec<Worker<D>>,
 )
     requires ready { IsReady (lock_id lock.now) first.old }
-    requires room { vec_len crew.old + vec_len doors ≤ vec_capacity crew.old }
+    requires room { vec_len crew.old + vec_len listeners ≤ vec_capacity crew.old }
     ensures ready { IsReady (lock_id lock.now) first.new }
     ensures pass { known first.new ≡ known first.old }
-    ensures hired { HasHired (lock_id lock.now) (known first.old) role doors.items crew.old.items crew.new.items }
-    ensures len { vec_len crew.new ≡ vec_len crew.old + vec_len doors }
+    ensures hired { HasHired (lock_id lock.now) (known first.old) role listeners.items crew.old.items crew.new.items }
+    ensures len { vec_len crew.new ≡ vec_len crew.old + vec_len listeners }
     ensures room { vec_capacity crew.new ≡ vec_capacity crew.old }
 {
-    for door in doors {
+    for listener in listeners {
         let pass = new_pass(rt, lock, first);
-        crew.push_reserved(new_worker(alloc, pass, door, role));
+        crew.push_reserved(new_worker(alloc, pass, listener, role));
     }
 }
 
@@ -50,16 +50,16 @@ fn new_pass<R: Wait>(rt: &R, lock: &ShareLock<Share>, first: &mut Pass<Share>) -
 }
 
 // Returns a worker that has not begun.
-fn new_worker<D>(alloc: Global, pass: Pass<Share>, door: D, role: Role) -> Worker<D>
+fn new_worker<D>(alloc: Global, pass: Pass<Share>, listener: D, role: Role) -> Worker<D>
     ensures pass { result.pass ≡ pass }
-    ensures door { result.door ≡ door }
+    ensures listener { result.listener ≡ listener }
     ensures role { result.role ≡ role }
     ensures unreported { result.reports.items ≡ [] }
     ensures running { result.end ≡ WorkerEnd.Running }
 {
     Worker {
         pass,
-        door,
+        listener,
         role,
         reports: Vec::new(alloc),
         end: WorkerEnd::Running,

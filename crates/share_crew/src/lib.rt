@@ -3,20 +3,20 @@
 #![tactic(auto)]
 
 mod beside;
-mod doors;
 mod gathering;
 mod hiring;
 mod lines;
+mod listeners;
 mod opening;
 mod outcome;
 mod partner;
 mod verdict;
 
 pub use beside::{keep_beside, run_workers, work_beside};
-pub use doors::shut_all;
 pub use gathering::{Gathered, gather, share_of};
 pub use hiring::add_workers;
 pub use lines::ended_line_of;
+pub use listeners::close_all;
 pub use opening::{LockedShare, WorkerBuffers, announced};
 pub use outcome::{LinkReports, Outcome};
 pub use partner::Partner;

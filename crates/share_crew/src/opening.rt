@@ -1,12 +1,12 @@
 //! Writes the first line of a share, and puts the share under its lock.
 
 ghost use Rattle.std.specs.Prelude.{◌≡◌, ◌≤◌, All, IfOk};
-ghost use Rattle.command_core.specs.Seen.{output_seen};
+ghost use Rattle.command_core.specs.Seen.{output_of};
 ghost use Rattle.share_replies.specs.Laws.{maker};
 ghost use Rattle.share_crew.specs.Begun.{Announces, HasRoom};
 
 use command_core::out_of_memory;
-use daap_outside::{Sink, put_all};
+use outside_net::{Sink, put_all};
 use share_core::Share;
 use share_lock::{Pass, ShareLock};
 use share_server::LinkReport;
@@ -59,8 +59,8 @@ pub fn announced<W: Sink, D: Drop>(
     requires passes { 1 ≤ passes }
     requires opening { All (λ e. maker e ≡ 0) share.history }
     ensures { Announces passes share room line.now
-        (output_seen (W.taken output.old) (W.faults output.old))
-        (output_seen (W.taken output.new) (W.faults output.new))
+        (output_of W.Sink output.old)
+        (output_of W.Sink output.new)
         result }
 {
     match put_all(output, line) {

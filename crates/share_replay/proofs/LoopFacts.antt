@@ -2,13 +2,13 @@
 use Rattle.std.proofs.Common.{◌≡◌, ◌+◌, ◌<◌, ◌≤◌, ℕ, List, slice_set, Bool, true, false, Option, None, Result, Ok, Err, OnOk, OnErr, if◌then◌else◌, refl, sym, ap, ◌∙◌, subst, arith}
 use Rattle.std.proofs.KnownBytes.{Appends-trans}
 use Rattle.std.specs.Io.KnownBytes.{Appends}
-use Rattle.daap_outside.specs.Told.{AppendsPrefix}
+use Rattle.outside_net.specs.Told.{AppendsPrefix}
 use Rattle.item_model.specs.declared.changes.Entry.{Entry}
 use Rattle.reply_bytes.proofs.Cut.{cut_behind}
 use Rattle.share_replies.specs.Settings.{Settings}
 use Rattle.share_replay.specs.Connections.{Connection}
 use Rattle.share_replay.specs.Ends.{end_line}
-use Rattle.share_replay.specs.Machine.{Desk, answers, begun, connection_at, line_place, most_left, number_of, played, reached, settled, stepped, told_at_once, turn_place}
+use Rattle.share_replay.specs.Machine.{Desk, answers, after_delivery, connection_at, line_place, most_left, number_of, after_line, slot_after, after_all_answers, after_answer, told_at_once, turn_place}
 use Rattle.share_replay.specs.Played.{IsAt, IsPart}
 use Rattle.share_replay.specs.declared.delivery.Delivery.{Delivery}
 use Rattle.share_replay.proofs.MachineFacts.{Leads, leads_on}
@@ -18,12 +18,12 @@ use Rattle.share_replay.proofs.StepFacts.{at_same}
 
 pub settled_more : (was : Bool) (s s0 : Settings) (place : ℕ) (h0 h h' : List Entry) (cs0 cs cs' : List (Option Connection)) (t0 t t' : Option (List ℕ)) → s ≡ s0
     → Leads s0 place h0 cs0 t0 h cs t
-    → (was ≡ true → (d : Desk) (start : Option (List ℕ)) → IsAt d h cs start t → IsAt (stepped s place d) h' cs' start t')
+    → (was ≡ true → (d : Desk) (start : Option (List ℕ)) → IsAt d h cs start t → IsAt (after_answer s place d) h' cs' start t')
     → (was ≡ false → (turn_place s h place cs ≡ None) × (h' ≡ h) × (cs' ≡ cs) × (t' ≡ t)) → (was ≡ true → most_left cs' < most_left cs)
     → Leads s0 place h0 cs0 t0 h' cs' t'
 settled_more true s s0 place h0 h h' cs0 cs cs' t0 t t' same leads step rest fewer =
     leads_on s0 place h0 h h' cs0 cs cs' t0 t t' leads (fewer refl)
-    (λ d start at. subst (λ (x : Settings). IsAt (stepped x place d) h' cs' start t') same (step refl d start at))
+    (λ d start at. subst (λ (x : Settings). IsAt (after_answer x place d) h' cs' start t') same (step refl d start at))
 settled_more false s s0 place h0 h h' cs0 cs cs' t0 t t' same leads step rest fewer =
     let r = rest refl in
     let left : most_left cs' ≡ most_left cs = ap most_left r.2 in
@@ -49,12 +49,12 @@ settled_smaller false s place h h' cs cs' t t' rest fewer = let r = rest refl in
 -- ---- a line, and the answers after it
 
 begun_at : (line : Delivery) (d : Desk) (h : List Entry) (cs cs' : List (Option Connection)) (start t t' : Option (List ℕ)) → IsAt d h cs start t
-    → cs' ≡ slice_set cs (line_place line) (reached line (connection_at cs (line_place line)))
+    → cs' ≡ slice_set cs (line_place line) (slot_after line (connection_at cs (line_place line)))
     → Appends t t' (end_line (number_of line) (told_at_once line (connection_at cs (line_place line))))
-    → IsAt (begun line d) h cs' start t'
+    → IsAt (after_delivery line d) h cs' start t'
 begun_at line d h cs cs' start t t' at set told = record {
   history = at.history;
-  connections = set ∙ ap (λ (l : List (Option Connection)). slice_set l (line_place line) (reached line (connection_at l (line_place line)))) at.connections;
+  connections = set ∙ ap (λ (l : List (Option Connection)). slice_set l (line_place line) (slot_after line (connection_at l (line_place line)))) at.connections;
   written =
       Appends-trans start t t' d.output (end_line (number_of line) (told_at_once line (connection_at d.connections (line_place line)))) at.written
       (subst (λ (l : List (Option Connection)). Appends t t' (end_line (number_of line) (told_at_once line (connection_at l (line_place line))))) at.connections told);
@@ -62,7 +62,7 @@ begun_at line d h cs cs' start t t' at set told = record {
 
 pub begun_part : (line : Delivery) (d : Desk) (h : List Entry) (cs : List (Option Connection)) (start t t' : Option (List ℕ)) → IsAt d h cs start t
     → AppendsPrefix t t' (end_line (number_of line) (told_at_once line (connection_at cs (line_place line))))
-    → IsPart (begun line d) h start t'
+    → IsPart (after_delivery line d) h start t'
 begun_part line d h cs start t t' at told = record {
   history = at.history;
   taken =
@@ -71,27 +71,27 @@ begun_part line d h cs start t t' at told = record {
 }
 
 pub line_played : {A E : Type 0} (s : Settings) (line : Delivery) (place : ℕ) (h h' : List Entry) (cs cs1 cs' : List (Option Connection)) (t t1 t' : Option (List ℕ)) (result : Result A E)
-    → place ≡ line_place line → cs1 ≡ slice_set cs (line_place line) (reached line (connection_at cs (line_place line)))
+    → place ≡ line_place line → cs1 ≡ slice_set cs (line_place line) (slot_after line (connection_at cs (line_place line)))
     → Appends t t1 (end_line (number_of line) (told_at_once line (connection_at cs (line_place line))))
-    → OnOk result ((d : Desk) (start : Option (List ℕ)) → IsAt d h cs1 start t1 → IsAt (settled s place d) h' cs' start t')
-    → OnOk result ((d : Desk) (start : Option (List ℕ)) → IsAt d h cs start t → IsAt (played s d line) h' cs' start t')
+    → OnOk result ((d : Desk) (start : Option (List ℕ)) → IsAt d h cs1 start t1 → IsAt (after_all_answers s place d) h' cs' start t')
+    → OnOk result ((d : Desk) (start : Option (List ℕ)) → IsAt d h cs start t → IsAt (after_line s d line) h' cs' start t')
 line_played s line place h h' cs cs1 cs' t t1 t' (Ok a) is set told done =
     λ d start at.
-    subst (λ (p : ℕ). IsAt (settled s p (begun line d)) h' cs' start t') is (done (begun line d) start (begun_at line d h cs cs1 start t t1 at set told))
+    subst (λ (p : ℕ). IsAt (after_all_answers s p (after_delivery line d)) h' cs' start t') is (done (after_delivery line d) start (begun_at line d h cs cs1 start t t1 at set told))
 line_played s line place h h' cs cs1 cs' t t1 t' (Err e) is set told done = tt
 
 pub line_part : {A E : Type 0} (s : Settings) (line : Delivery) (place : ℕ) (h h' : List Entry) (cs cs1 : List (Option Connection)) (t t1 t' : Option (List ℕ)) (result : Result A E)
-    → place ≡ line_place line → cs1 ≡ slice_set cs (line_place line) (reached line (connection_at cs (line_place line)))
+    → place ≡ line_place line → cs1 ≡ slice_set cs (line_place line) (slot_after line (connection_at cs (line_place line)))
     → Appends t t1 (end_line (number_of line) (told_at_once line (connection_at cs (line_place line))))
     → OnErr result ((d : Desk) (start : Option (List ℕ)) → IsAt d h cs1 start t1 → (k : ℕ) × (k ≤ most_left cs1) × IsPart (answers s place k d) h' start t')
     → OnErr result ((d : Desk) (start : Option (List ℕ)) → IsAt d h cs start t
-    → (k : ℕ) × (k ≤ most_left (begun line d).connections) × IsPart (answers s (line_place line) k (begun line d)) h' start t')
+    → (k : ℕ) × (k ≤ most_left (after_delivery line d).connections) × IsPart (answers s (line_place line) k (after_delivery line d)) h' start t')
 line_part s line place h h' cs cs1 t t1 t' (Ok a) is set told broken = tt
 line_part s line place h h' cs cs1 t t1 t' (Err e) is set told broken =
     λ d start at.
     let begins = begun_at line d h cs cs1 start t t1 at set told in
-    let cut = broken (begun line d) start begins in (
+    let cut = broken (after_delivery line d) start begins in (
       cut.0,
       subst (λ (l : List (Option Connection)). cut.0 ≤ most_left l) begins.connections cut.1,
-      subst (λ (p : ℕ). IsPart (answers s p cut.0 (begun line d)) h' start t') is cut.2,
+      subst (λ (p : ℕ). IsPart (answers s p cut.0 (after_delivery line d)) h' start t') is cut.2,
     )

@@ -11,7 +11,7 @@ use Rattle.item_model.specs.declared.changes.Entry.{Entry}
 use Rattle.reply_bytes.proofs.Cut.{cut_behind}
 use Rattle.share_replies.specs.Settings.{Settings}
 use Rattle.share_replay.specs.Connections.{Connection}
-use Rattle.share_replay.specs.Machine.{Desk, answers, connection_at, due_at, first_due, left_at, most_left, settled, stepped, stepped_at, taken_at, turn_of, turn_place, with_turn}
+use Rattle.share_replay.specs.Machine.{Desk, answers, connection_at, due_at, first_due, left_at, most_left, after_all_answers, after_answer, after_answer_at, taken_at, turn_of, turn_place, with_turn}
 use Rattle.share_replay.specs.Played.{IsAt, IsPart, IsUntold, SlotAnswered, SlotBreaksOff, SlotHalfTold}
 use Rattle.share_replay.specs.Turns.{Due, Turn, due_on, left_on, turn_for}
 use Rattle.share_replay.proofs.Written.{all_taken}
@@ -29,7 +29,7 @@ nobody_there cs place past = ap (λ (o : Option (Option Connection)). option_and
 -- if the machine is at this state, a turn of a connection with a next answer is that of the state
 stepped_is : (s : Settings) (d : Desk) (h : List Entry) (cs : List (Option Connection)) (start t : Option (List ℕ)) (place : ℕ) (c : Connection) (due : Due)
     → IsAt d h cs start t → connection_at cs place ≡ Some c → due_on s h c ≡ Some due
-    → stepped_at s (Some place) d ≡ taken_at place (turn_for (place + 1) h c due) d
+    → after_answer_at s (Some place) d ≡ taken_at place (turn_for (place + 1) h c due) d
 stepped_is s d h cs start t place c due at is due_is =
     ap (turn_of s d place) (ap (λ (l : List (Option Connection)). connection_at l place) (sym at.connections) ∙ is)
     ∙ ap (with_turn place d c) (ap (λ (k : List Entry). due_on s k c) (sym at.history) ∙ due_is)
@@ -37,7 +37,7 @@ stepped_is s d h cs start t place c due at is due_is =
 
 turned : (s : Settings) (h h' : List Entry) (cs cs' : List (Option Connection)) (t t' : Option (List ℕ)) (place : ℕ) (slot slot' : Option Connection)
     → connection_at cs place ≡ slot → cs' ≡ slice_set cs place slot' → SlotAnswered s (place + 1) h slot h' slot' t t'
-    → (d : Desk) (start : Option (List ℕ)) → IsAt d h cs start t → IsAt (stepped_at s (Some place) d) h' cs' start t'
+    → (d : Desk) (start : Option (List ℕ)) → IsAt d h cs start t → IsAt (after_answer_at s (Some place) d) h' cs' start t'
 turned s h h' cs cs' t t' place slot slot' is set a d start at =
     let turn : Turn = turn_for (place + 1) h a.old a.answered.due in
     subst (λ (x : Desk). IsAt x h' cs' start t') (sym (stepped_is s d h cs start t place a.old a.answered.due at (is ∙ a.was) a.answered.is_due)) (record {
@@ -50,7 +50,7 @@ turned s h h' cs cs' t t' place slot slot' is set a d start at =
 
 part_turned : (s : Settings) (h h' : List Entry) (cs : List (Option Connection)) (t t' : Option (List ℕ)) (place : ℕ) (slot : Option Connection)
     → connection_at cs place ≡ slot → SlotHalfTold s (place + 1) h slot h' t t'
-    → (d : Desk) (start : Option (List ℕ)) → IsAt d h cs start t → IsPart (stepped_at s (Some place) d) h' start t'
+    → (d : Desk) (start : Option (List ℕ)) → IsAt d h cs start t → IsPart (after_answer_at s (Some place) d) h' start t'
 part_turned s h h' cs t t' place slot is a d start at =
     let turn : Turn = turn_for (place + 1) h a.old a.told.due in
     subst (λ (x : Desk). IsPart x h' start t') (sym (stepped_is s d h cs start t place a.old a.told.due at (is ∙ a.was) a.told.is_due)) (record {
@@ -77,7 +77,7 @@ answered_due s number h h' slot slot' t t' a = due_there s h slot a.old a.answer
 part_at : (s : Settings) (h h' : List Entry) (cs : List (Option Connection)) (t t' : Option (List ℕ)) (place : ℕ) (slot : Option Connection)
     → place < length cs → slot ≡ get_or cs place slot → SlotBreaksOff s (place + 1) h slot h' t t'
     → (d : Desk) (start : Option (List ℕ)) → IsAt d h cs start t
-    → IsPart d h' start t' ⊎ ((is_some (due_at s h (connection_at cs place)) ≡ true) × (0 < most_left cs) × IsPart (stepped_at s (Some place) d) h' start t')
+    → IsPart d h' start t' ⊎ ((is_some (due_at s h (connection_at cs place)) ≡ true) × (0 < most_left cs) × IsPart (after_answer_at s (Some place) d) h' start t')
 part_at s h h' cs t t' place slot within was (inl a) d start at = inl (part_stays h h' cs t t' a d start at)
 part_at s h h' cs t t' place slot within was (inr a) d start at =
     let is : connection_at cs place ≡ slot = connection_there cs place slot within ∙ sym was in
@@ -92,7 +92,7 @@ part_at s h h' cs t t' place slot within was (inr a) d start at =
 -- the same, of an answer at this index
 pub turned_here : {E : Type 0} (s : Settings) (h h' : List Entry) (cs : List (Option Connection)) (t t' : Option (List ℕ)) (place : ℕ) (d slot' : Option Connection) (result : Result Bool E)
     → place < length cs → IfOk result (λ was. was ≡ true → SlotAnswered s (place + 1) h (get_or cs place d) h' slot' t t')
-    → IfOk result (λ was. was ≡ true → (desk : Desk) (start : Option (List ℕ)) → IsAt desk h cs start t → IsAt (stepped_at s (Some place) desk) h' (slice_set cs place slot') start t')
+    → IfOk result (λ was. was ≡ true → (desk : Desk) (start : Option (List ℕ)) → IsAt desk h cs start t → IsAt (after_answer_at s (Some place) desk) h' (slice_set cs place slot') start t')
 turned_here s h h' cs t t' place d slot' (Ok was) within answered =
     λ yes. turned s h h' cs (slice_set cs place slot') t t' place (get_or cs place d) slot' (connection_there cs place d within) refl (answered yes)
 turned_here s h h' cs t t' place d slot' (Err e) within answered = tt
@@ -100,7 +100,7 @@ turned_here s h h' cs t t' place d slot' (Err e) within answered = tt
 pub part_here : {E : Type 0} (s : Settings) (h h' : List Entry) (cs : List (Option Connection)) (t t' : Option (List ℕ)) (place : ℕ) (slot : Option Connection) (result : Result Bool E)
     → place < length cs → slot ≡ get_or cs place slot → OnErr result (SlotBreaksOff s (place + 1) h slot h' t t')
     → OnErr result ((d : Desk) (start : Option (List ℕ)) → IsAt d h cs start t
-    → IsPart d h' start t' ⊎ ((is_some (due_at s h (connection_at cs place)) ≡ true) × (0 < most_left cs) × IsPart (stepped_at s (Some place) d) h' start t'))
+    → IsPart d h' start t' ⊎ ((is_some (due_at s h (connection_at cs place)) ≡ true) × (0 < most_left cs) × IsPart (after_answer_at s (Some place) d) h' start t'))
 part_here s h h' cs t t' place slot (Ok was) within is broken = tt
 part_here s h h' cs t t' place slot (Err e) within is broken = part_at s h h' cs t t' place slot within is broken
 
@@ -139,11 +139,11 @@ pub turn_other : (s : Settings) (h : List Entry) (place : ℕ) (cs : List (Optio
 turn_other s h place cs is = ap (λ (b : Bool). if b then Some place else first_due s h 0 cs) is
 
 pub stepped_turn : (s : Settings) (d : Desk) (h : List Entry) (cs : List (Option Connection)) (start t : Option (List ℕ)) (place : ℕ) (turn : Option ℕ)
-    → IsAt d h cs start t → turn_place s h place cs ≡ turn → stepped s place d ≡ stepped_at s turn d
+    → IsAt d h cs start t → turn_place s h place cs ≡ turn → after_answer s place d ≡ after_answer_at s turn d
 stepped_turn s d h cs start t place turn at is =
-    ap (λ (k : List Entry). stepped_at s (turn_place s k place d.connections) d) (sym at.history)
-    ∙ ap (λ (l : List (Option Connection)). stepped_at s (turn_place s h place l) d) (sym at.connections)
-    ∙ ap (λ (o : Option ℕ). stepped_at s o d) is
+    ap (λ (k : List Entry). after_answer_at s (turn_place s k place d.connections) d) (sym at.history)
+    ∙ ap (λ (l : List (Option Connection)). after_answer_at s (turn_place s h place l) d) (sym at.connections)
+    ∙ ap (λ (o : Option ℕ). after_answer_at s o d) is
 
 -- ---- answers until no connection can be answered
 
@@ -152,14 +152,14 @@ still : (s : Settings) (place k : ℕ) (d : Desk) → turn_place s (answers s pl
 still s place k d rests zero within = let same : zero ≡ k = omega (arith, within) in ap (λ (m : ℕ). answers s place m d) same
 still s place k d rests (suc n) within = elim (cases_lt n k) [
   | inl less ↦ let same : suc n ≡ k = omega (arith, within, less) in ap (λ (m : ℕ). answers s place m d) same
-  | inr more ↦ ap (stepped s place) (still s place k d rests n more) ∙ ap (λ (o : Option ℕ). stepped_at s o (answers s place k d)) rests
+  | inr more ↦ ap (after_answer s place) (still s place k d rests n more) ∙ ap (λ (o : Option ℕ). after_answer_at s o (answers s place k d)) rests
 ]
 
 answers_more : (s : Settings) (place k j : ℕ) (d : Desk) → answers s place j (answers s place k d) ≡ answers s place (j + k) d
 answers_more s place k zero d = let same : k ≡ zero + k = omega arith in ap (λ (m : ℕ). answers s place m d) same
 answers_more s place k (suc j) d =
     let same : suc (j + k) ≡ suc j + k = omega arith in
-    ap (stepped s place) (answers_more s place k j d) ∙ ap (λ (m : ℕ). answers s place m d) same
+    ap (after_answer s place) (answers_more s place k j d) ∙ ap (λ (m : ℕ). answers s place m d) same
 
 -- some number of answers leads from one state to another
 pub record Leads (s : Settings) (place : ℕ) (h : List Entry) (cs : List (Option Connection)) (t : Option (List ℕ)) (h' : List Entry) (cs' : List (Option Connection)) (t' : Option (List ℕ)) : Type 0 where
@@ -172,7 +172,7 @@ leads_nowhere s place h cs t = record { count = 0; few = omega arith; at = λ d 
 
 pub leads_on : (s : Settings) (place : ℕ) (h h' h'' : List Entry) (cs cs' cs'' : List (Option Connection)) (t t' t'' : Option (List ℕ))
     → Leads s place h cs t h' cs' t' → most_left cs'' < most_left cs'
-    → ((d : Desk) (start : Option (List ℕ)) → IsAt d h' cs' start t' → IsAt (stepped s place d) h'' cs'' start t'')
+    → ((d : Desk) (start : Option (List ℕ)) → IsAt d h' cs' start t' → IsAt (after_answer s place d) h'' cs'' start t'')
     → Leads s place h cs t h'' cs'' t''
 leads_on s place h h' h'' cs cs' cs'' t t' t'' leads fewer step = record {
   count = suc leads.count;
@@ -182,7 +182,7 @@ leads_on s place h h' h'' cs cs' cs'' t t' t'' leads fewer step = record {
 
 pub leads_all : (s : Settings) (place : ℕ) (h h' : List Entry) (cs cs' : List (Option Connection)) (t t' : Option (List ℕ))
     → Leads s place h cs t h' cs' t' → turn_place s h' place cs' ≡ None
-    → (d : Desk) (start : Option (List ℕ)) → IsAt d h cs start t → IsAt (settled s place d) h' cs' start t'
+    → (d : Desk) (start : Option (List ℕ)) → IsAt d h cs start t → IsAt (after_all_answers s place d) h' cs' start t'
 leads_all s place h h' cs cs' t t' leads rests d start at =
     let there = leads.at d start at in
     let none : turn_place s (answers s place leads.count d).history place (answers s place leads.count d).connections ≡ None =

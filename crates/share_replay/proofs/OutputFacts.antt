@@ -5,7 +5,7 @@ use Rattle.share_replies.specs.Settings.{Settings}
 use Rattle.share_replay.specs.Connections.{Connection}
 use Rattle.share_replay.specs.Ends.{end_line}
 use Rattle.share_replay.specs.Laws.{OutputsGoOn}
-use Rattle.share_replay.specs.Machine.{Desk, answers, begin, begun, connection_at, last_lines, line_place, most_left, number_of, output_of, played, stepped_at, told_at_once, turn_of, turn_place, with_turn}
+use Rattle.share_replay.specs.Machine.{Desk, answers, begin, after_delivery, connection_at, last_lines, line_place, most_left, number_of, output_of, after_line, after_answer_at, told_at_once, turn_of, turn_place, with_turn}
 use Rattle.share_replay.specs.Played.{broken_in, most_answers}
 use Rattle.share_replay.specs.Turns.{Due, due_on, turn_for}
 use Rattle.share_replay.specs.declared.delivery.Delivery.{Delivery}
@@ -33,7 +33,7 @@ turn_begins : (s : Settings) (d : Desk) (place : ℕ) (c : Option Connection) �
 turn_begins s d place None = itself d.output
 turn_begins s d place (Some c) = with_begins place d c (due_on s d.history c)
 
-step_begins : (s : Settings) (o : Option ℕ) (d : Desk) → Begins d.output (stepped_at s o d).output
+step_begins : (s : Settings) (o : Option ℕ) (d : Desk) → Begins d.output (after_answer_at s o d).output
 step_begins s None d = itself d.output
 step_begins s (Some place) d = turn_begins s d place (connection_at d.connections place)
 
@@ -49,26 +49,26 @@ answers_begin s place k d (suc n) within = elim (cases_lt n k) [
       (step_begins s (turn_place s (answers s place n d).history place (answers s place n d).connections) (answers s place n d))
 ]
 
-line_begins : (s : Settings) (d : Desk) (line : Delivery) → Begins d.output (played s d line).output
+line_begins : (s : Settings) (d : Desk) (line : Delivery) → Begins d.output (after_line s d line).output
 line_begins s d line =
-    behind d.output (begun line d).output (played s d line).output
+    behind d.output (after_delivery line d).output (after_line s d line).output
     (added d.output (end_line (number_of line) (told_at_once line (connection_at d.connections (line_place line)))))
-    (answers_begin s (line_place line) 0 (begun line d) (most_left (begun line d).connections) (omega arith))
+    (answers_begin s (line_place line) 0 (after_delivery line d) (most_left (after_delivery line d).connections) (omega arith))
 
-lines_begin : (s : Settings) (lines : List Delivery) (d : Desk) → Begins d.output (output_of (fold (played s) d lines))
+lines_begin : (s : Settings) (lines : List Delivery) (d : Desk) → Begins d.output (output_of (fold (after_line s) d lines))
 lines_begin s [] d = added d.output (last_lines 1 d.connections)
 lines_begin s (line ∷ lines) d =
-    behind d.output (played s d line).output (output_of (fold (played s) (played s d line) lines)) (line_begins s d line) (lines_begin s lines (played s d line))
+    behind d.output (after_line s d line).output (output_of (fold (after_line s) (after_line s d line) lines)) (line_begins s d line) (lines_begin s lines (after_line s d line))
 
 runs_on : (s : Settings) (lines : List Delivery) (d : Desk) (line answered : ℕ)
-    → answered ≤ most_answers (fold (played s) d (take line lines)) (slice_get lines line)
-    → Begins (broken_in s (fold (played s) d (take line lines)) (slice_get lines line) answered).output (output_of (fold (played s) d lines))
+    → answered ≤ most_answers (fold (after_line s) d (take line lines)) (slice_get lines line)
+    → Begins (broken_in s (fold (after_line s) d (take line lines)) (slice_get lines line) answered).output (output_of (fold (after_line s) d lines))
 runs_on s [] d zero answered few = itself (output_of d)
 runs_on s [] d (suc line) answered few = itself (output_of d)
 runs_on s (x ∷ lines) d zero answered few =
-    behind (answers s (line_place x) answered (begun x d)).output (played s d x).output (output_of (fold (played s) (played s d x) lines))
-    (answers_begin s (line_place x) answered (begun x d) (most_left (begun x d).connections) few) (lines_begin s lines (played s d x))
-runs_on s (x ∷ lines) d (suc line) answered few = runs_on s lines (played s d x) line answered few
+    behind (answers s (line_place x) answered (after_delivery x d)).output (after_line s d x).output (output_of (fold (after_line s) (after_line s d x) lines))
+    (answers_begin s (line_place x) answered (after_delivery x d) (most_left (after_delivery x d).connections) few) (lines_begin s lines (after_line s d x))
+runs_on s (x ∷ lines) d (suc line) answered few = runs_on s lines (after_line s d x) line answered few
 
 pub outputs_go_on : OutputsGoOn
 unfolding Begins

@@ -6,7 +6,7 @@ use Rattle.item_model.specs.declared.changes.Entry.{Entry}
 use Rattle.share_replies.specs.Settings.{Settings}
 use Rattle.share_replies.specs.Added.{adds}
 use Rattle.share_replay.specs.Connections.{Connection, reading_on, next_ask, end_of_input, ended_by, shut}
-use Rattle.share_replay.specs.Machine.{Desk, connection_at, turn_place, with_turn, turn_of, stepped_at, stepped, answers, most_left, line_place, begun, played, begin}
+use Rattle.share_replay.specs.Machine.{Desk, connection_at, turn_place, with_turn, turn_of, after_answer_at, after_answer, answers, most_left, line_place, after_delivery, after_line, begin}
 use Rattle.share_replay.specs.Turns.{Due, Answers, Refuses, due_next, due_on, turn_for}
 use Rattle.share_replay.specs.declared.delivery.Delivery.{Delivery}
 use Rattle.share_replay.specs.Laws.{NothingIsPlayed, HistoriesGoOn, EndedConnectionsRest}
@@ -40,23 +40,23 @@ turn_of_goes : (s : Settings) (d : Desk) (place : ℕ) (c : Option Connection) �
 turn_of_goes s d place None = goes_none d.history
 turn_of_goes s d place (Some c) = with_goes place d c (due_on s d.history c)
 
-step_goes : (s : Settings) (o : Option ℕ) (d : Desk) → Goes d.history (stepped_at s o d).history
+step_goes : (s : Settings) (o : Option ℕ) (d : Desk) → Goes d.history (after_answer_at s o d).history
 step_goes s None d = goes_none d.history
 step_goes s (Some place) d = turn_of_goes s d place (connection_at d.connections place)
 
 answers_go : (s : Settings) (place n : ℕ) (d : Desk) → Goes d.history (answers s place n d).history
 answers_go s place zero d = goes_none d.history
 answers_go s place (suc n) d =
-    goes_then d.history (answers s place n d).history (stepped s place (answers s place n d)).history (answers_go s place n d)
+    goes_then d.history (answers s place n d).history (after_answer s place (answers s place n d)).history (answers_go s place n d)
     (step_goes s (turn_place s (answers s place n d).history place (answers s place n d).connections) (answers s place n d))
 
-played_goes : (s : Settings) (d : Desk) (line : Delivery) → Goes d.history (played s d line).history
-played_goes s d line = answers_go s (line_place line) (most_left (begun line d).connections) (begun line d)
+played_goes : (s : Settings) (d : Desk) (line : Delivery) → Goes d.history (after_line s d line).history
+played_goes s d line = answers_go s (line_place line) (most_left (after_delivery line d).connections) (after_delivery line d)
 
-lines_go : (s : Settings) (lines : List Delivery) (d : Desk) → Goes d.history (fold (played s) d lines).history
+lines_go : (s : Settings) (lines : List Delivery) (d : Desk) → Goes d.history (fold (after_line s) d lines).history
 lines_go s [] d = goes_none d.history
 lines_go s (line ∷ lines) d =
-    goes_then d.history (played s d line).history (fold (played s) (played s d line) lines).history (played_goes s d line) (lines_go s lines (played s d line))
+    goes_then d.history (after_line s d line).history (fold (after_line s) (after_line s d line) lines).history (played_goes s d line) (lines_go s lines (after_line s d line))
 
 pub histories_go_on : HistoriesGoOn
 unfolding Goes

@@ -3,12 +3,12 @@ use Rattle.std.proofs.Common.{◌≡◌, ◌≤◌, ℕ, List, length, take, sli
 use Rattle.std.proofs.KnownBytes.{Appends-nil, Appends-trans}
 use Rattle.std.proofs.lemmas.Option.{slice_get_past}
 use Rattle.std.specs.Io.KnownBytes.{Appends}
-use Rattle.daap_outside.specs.Told.{AppendsPrefix}
+use Rattle.outside_net.specs.Told.{AppendsPrefix}
 use Rattle.item_model.specs.declared.changes.Entry.{Entry}
 use Rattle.reply_bytes.proofs.Cut.{cut_behind}
 use Rattle.share_replies.specs.Settings.{Settings}
 use Rattle.share_replay.specs.Connections.{Connection}
-use Rattle.share_replay.specs.Machine.{answers, begin, begun, last_lines, line_place, most_left, nobody, output_of, script_bytes, script_run}
+use Rattle.share_replay.specs.Machine.{answers, begin, after_delivery, last_lines, line_place, most_left, nobody, output_of, script_bytes, script_run}
 use Rattle.share_replay.specs.Played.{IsAt, IsBrokenOff, IsPart, broken_at, broken_in, most_answers}
 use Rattle.share_replay.specs.declared.delivery.Delivery.{Delivery}
 use Rattle.share_replay.proofs.OutputFacts.{outputs_go_on}
@@ -26,12 +26,12 @@ broken_before s h lines t = by_lines lines
       where
         by_first : (o : Option Delivery) → IsPart (broken_in s (begin h) o 0) h t t
         by_first None = record { history = refl; taken = none_taken t (output_of (begin h)) }
-        by_first (Some line) = record { history = refl; taken = none_taken t (begun line (begin h)).output }
+        by_first (Some line) = record { history = refl; taken = none_taken t (after_delivery line (begin h)).output }
 
 -- within a line
 pub broken_within : (s : Settings) (h h' : List Entry) (lines : List Delivery) (index : ℕ) (line : Delivery) (t t' : Option (List ℕ)) → slice_get lines index ≡ Some line
-    → (k : ℕ) × (k ≤ most_left (begun line (script_run s h (take index lines))).connections)
-    × IsPart (answers s (line_place line) k (begun line (script_run s h (take index lines)))) h' t t'
+    → (k : ℕ) × (k ≤ most_left (after_delivery line (script_run s h (take index lines))).connections)
+    × IsPart (answers s (line_place line) k (after_delivery line (script_run s h (take index lines)))) h' t t'
     → IsBrokenOff s h lines h' t t'
 broken_within s h h' lines index line t t' is (k, few, part) = record {
   line = index;

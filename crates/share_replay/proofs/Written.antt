@@ -3,7 +3,7 @@ use Rattle.std.proofs.Common.{ℕ, List, ◌++◌, Option, Result, Ok, Err, leng
 use Rattle.std.proofs.lemmas.List.{take-append-le}
 use Rattle.std.proofs.KnownBytes.{Appends-nil, Appends-trans}
 use Rattle.std.specs.Io.KnownBytes.{Appends}
-use Rattle.daap_outside.specs.Told.{AppendsPrefix}
+use Rattle.outside_net.specs.Told.{AppendsPrefix}
 use Rattle.reply_bytes.proofs.Cut.{cut_behind}
 
 -- nothing was

@@ -21,8 +21,8 @@ pub record Connection : Type 0 where
   -- whether the connection has ended: no more requests are answered
   pub is_ended : Bool
 
-abbrev pub opened : Role → Connection
-opened role = record { role = role; bytes = []; served = 0; is_closed = false; is_ended = false }
+abbrev pub new_connection : Role → Connection
+new_connection role = record { role = role; bytes = []; served = 0; is_closed = false; is_ended = false }
 
 abbrev pub reading_on : Connection → Reading
 reading_on c = reading_of c.role c.bytes

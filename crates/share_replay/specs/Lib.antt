@@ -8,6 +8,8 @@ pub mod Machine
 pub mod Asked
 pub mod Told
 pub mod Played
+pub mod Moments
 pub mod Intakes
 pub mod Stops
+pub mod Outputs
 pub mod Laws

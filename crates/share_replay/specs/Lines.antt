@@ -80,8 +80,8 @@ first_word line = before 32 line
 abbrev pub other_words : List ℕ → Option (List ℕ)
 other_words line = behind 32 line
 
-abbrev pub role_named : List ℕ → Option Role
-role_named word = if bytes_eq word (codes "listen") then Some Listen else (if bytes_eq word (codes "edit") then Some Edit else None)
+abbrev pub role_in : List ℕ → Option Role
+role_in word = if bytes_eq word (codes "listen") then Some Listen else (if bytes_eq word (codes "edit") then Some Edit else None)
 
 abbrev pub opens : Option ℕ → Option Role → Option Delivery
 opens None role = None
@@ -95,7 +95,7 @@ delivers (Some number) (Some bytes) = Some (Text number bytes)
 
 -- The delivery of a line, from what follows the word `open`, `text` or `close`.
 abbrev pub open_told : List ℕ → Option Delivery
-open_told line = opens (number_in (first_word line)) (option_and_then role_named (other_words line))
+open_told line = opens (number_in (first_word line)) (option_and_then role_in (other_words line))
 
 abbrev pub text_told : List ℕ → Option Delivery
 text_told line = delivers (number_in (first_word line)) (option_and_then written_by (other_words line))

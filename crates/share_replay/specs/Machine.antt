@@ -6,8 +6,9 @@ use Rattle.std.specs.Prelude.{ℕ, zero, suc, ◌+◌, ◌-◌, List, [], ◌∷
 use Rattle.std.specs.List.{slice_get, slice_set, sum_by, fold}
 use Rattle.std.specs.Option.{option_and_then}
 use Rattle.item_model.specs.declared.changes.Entry.{Entry}
+use Rattle.share_replies.specs.Answers.{Shared}
 use Rattle.share_replies.specs.Settings.{Settings}
-use Rattle.share_replay.specs.Connections.{Connection, opened, gets, closes, end_at_close, last_end}
+use Rattle.share_replay.specs.Connections.{Connection, new_connection, gets, closes, end_at_close, last_end}
 use Rattle.share_replay.specs.Ends.{end_line}
 use Rattle.share_replay.specs.Turns.{Due, Turn, due_on, turn_for, left_on}
 use Rattle.share_replay.specs.declared.delivery.Delivery.{Delivery}
@@ -61,17 +62,17 @@ turn_of s d place None = d
 turn_of s d place (Some c) = with_turn place d c (due_on s d.history c)
 
 -- One answer, if there is one.
-abbrev pub stepped_at : Settings → Option ℕ → Desk → Desk
-stepped_at s None d = d
-stepped_at s (Some place) d = turn_of s d place (connection_at d.connections place)
+abbrev pub after_answer_at : Settings → Option ℕ → Desk → Desk
+after_answer_at s None d = d
+after_answer_at s (Some place) d = turn_of s d place (connection_at d.connections place)
 
-abbrev pub stepped : Settings → ℕ → Desk → Desk
-stepped s place d = stepped_at s (turn_place s d.history place d.connections) d
+abbrev pub after_answer : Settings → ℕ → Desk → Desk
+after_answer s place d = after_answer_at s (turn_place s d.history place d.connections) d
 
 -- The first `n` answers after a delivery to the connection at `place`.
 abbrev pub answers : Settings → ℕ → ℕ → Desk → Desk
 answers s place zero d = d
-answers s place (suc n) d = stepped s place (answers s place n d)
+answers s place (suc n) d = after_answer s place (answers s place n d)
 
 abbrev pub left_at : Option Connection → ℕ
 left_at None = 0
@@ -80,9 +81,9 @@ left_at (Some c) = left_on c
 abbrev pub most_left : List (Option Connection) → ℕ
 most_left cs = sum_by left_at cs
 
--- All answers: afterwards no connection can be answered.
-abbrev pub settled : Settings → ℕ → Desk → Desk
-settled s place d = answers s place (most_left d.connections) d
+-- As many answers as the connections have left.
+abbrev pub after_all_answers : Settings → ℕ → Desk → Desk
+after_all_answers s place d = answers s place (most_left d.connections) d
 
 -- ---- Lines.
 
@@ -95,25 +96,32 @@ abbrev pub line_place : Delivery → ℕ
 line_place delivery = place_of (number_of delivery)
 
 -- The connection after a line of its number, and what is written at once.
-abbrev pub reached : Delivery → Option Connection → Option Connection
-reached (Open number role) c = Some (opened role)
-reached (Text number bytes) c = option_map (gets bytes) c
-reached (Close number) c = option_map closes c
+abbrev pub slot_after : Delivery → Option Connection → Option Connection
+slot_after (Open number role) c = Some (new_connection role)
+slot_after (Text number bytes) c = option_map (gets bytes) c
+slot_after (Close number) c = option_map closes c
 
 abbrev pub told_at_once : Delivery → Option Connection → Option End
 told_at_once (Open number role) c = None
 told_at_once (Text number bytes) c = None
 told_at_once (Close number) c = option_and_then end_at_close c
 
-abbrev pub begun : Delivery → Desk → Desk
-begun delivery d = let c = connection_at d.connections (line_place delivery) in record {
+-- The connections after a line, and the output's line if the delivery ends its connection at once.
+abbrev pub connections_after : Delivery → List (Option Connection) → List (Option Connection)
+connections_after delivery cs = slice_set cs (line_place delivery) (slot_after delivery (connection_at cs (line_place delivery)))
+
+abbrev pub end_at_once : Delivery → Option Connection → List ℕ
+end_at_once delivery c = end_line (number_of delivery) (told_at_once delivery c)
+
+abbrev pub after_delivery : Delivery → Desk → Desk
+after_delivery delivery d = let c = connection_at d.connections (line_place delivery) in record {
   history = d.history;
-  connections = slice_set d.connections (line_place delivery) (reached delivery c);
+  connections = slice_set d.connections (line_place delivery) (slot_after delivery c);
   output = d.output ++ end_line (number_of delivery) (told_at_once delivery c);
 }
 
-abbrev pub played : Settings → Desk → Delivery → Desk
-played s d delivery = settled s (line_place delivery) (begun delivery d)
+abbrev pub after_line : Settings → Desk → Delivery → Desk
+after_line s d delivery = after_all_answers s (line_place delivery) (after_delivery delivery d)
 
 -- ---- Scripts.
 
@@ -124,7 +132,7 @@ abbrev pub begin : List Entry → Desk
 begin h = record { history = h; connections = nobody; output = [] }
 
 abbrev pub script_run : Settings → List Entry → List Delivery → Desk
-script_run s h lines = fold (played s) (begin h) lines
+script_run s h lines = fold (after_line s) (begin h) lines
 
 -- At the end of a script, a line for each connection that has not ended, in order of number.
 abbrev pub last_lines : ℕ → List (Option Connection) → List ℕ
@@ -140,3 +148,10 @@ script_bytes s h lines = output_of (script_run s h lines)
 
 abbrev pub script_history : Settings → List Entry → List Delivery → List Entry
 script_history s h lines = (script_run s h lines).history
+
+-- The same of a replay to a share.
+abbrev pub replay_bytes : Shared → List Delivery → List ℕ
+replay_bytes share lines = script_bytes share.settings share.history lines
+
+abbrev pub replay_history : Shared → List Delivery → List Entry
+replay_history share lines = script_history share.settings share.history lines

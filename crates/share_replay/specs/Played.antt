@@ -2,12 +2,12 @@
 use Rattle.std.specs.Prelude.{◌≡◌, ◌⊎◌, ◌<◌, ◌≤◌, ℕ, List, [], take, Option, Some, None}
 use Rattle.std.specs.Io.KnownBytes.{Appends}
 use Rattle.std.specs.List.{slice_get}
-use Rattle.daap_outside.specs.Told.{AppendsPrefix}
+use Rattle.outside_net.specs.Told.{AppendsPrefix}
 use Rattle.item_model.specs.declared.changes.Entry.{Entry}
 use Rattle.share_replies.specs.Settings.{Settings}
 use Rattle.share_replay.specs.Connections.{Connection}
 use Rattle.share_replay.specs.Turns.{Due, due_on, left_on, turn_for}
-use Rattle.share_replay.specs.Machine.{Desk, answers, begun, line_place, most_left, output_of, script_run}
+use Rattle.share_replay.specs.Machine.{Desk, answers, after_delivery, line_place, most_left, output_of, script_run}
 use Rattle.share_replay.specs.declared.delivery.Delivery.{Delivery}
 
 -- ---- One connection.
@@ -68,7 +68,7 @@ pub record IsPart (d : Desk) (h : List Entry) (start now : Option (List ℕ)) : 
 
 -- The machine within a line after the first `answered` answers, or at the end of the script.
 abbrev pub broken_in : Settings → Desk → Option Delivery → ℕ → Desk
-broken_in s d (Some line) answered = answers s (line_place line) answered (begun line d)
+broken_in s d (Some line) answered = answers s (line_place line) answered (after_delivery line d)
 broken_in s d None answered = record { history = d.history; connections = d.connections; output = output_of d }
 
 abbrev pub broken_at : Settings → List Entry → List Delivery → ℕ → ℕ → Desk
@@ -76,7 +76,7 @@ broken_at s h lines line answered = broken_in s (script_run s h (take line lines
 
 -- The most answers within the line.
 abbrev pub most_answers : Desk → Option Delivery → ℕ
-most_answers d (Some line) = most_left (begun line d).connections
+most_answers d (Some line) = most_left (after_delivery line d).connections
 most_answers d None = 0
 
 -- The share has the history of the machine after some of its answers, and a prefix of their output was written.

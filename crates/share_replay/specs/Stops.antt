@@ -1,6 +1,6 @@
 -- The error counter after an interrupted replay.
 use Rattle.std.specs.Prelude.{◌≡◌, ℕ}
-use Rattle.daap_outside.specs.Counts.{Rose}
+use Rattle.outside_net.specs.Counts.{Rose}
 use Rattle.share_replay.specs.declared.replay_error.ReplayError.{ReplayError}
 use Rattle.share_replay.specs.declared.replay_error.ReplayError.TheVariants.{Failed, Memory}
 

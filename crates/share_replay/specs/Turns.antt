@@ -3,7 +3,9 @@ use Rattle.std.specs.Prelude.{ℕ, ◌+◌, ◌-◌, List, [], ◌++◌, Bool, t
 use Rattle.std.specs.Option.{option_or}
 use Rattle.http_heads.specs.declared.refusal.HeadError.{HeadError}
 use Rattle.item_model.specs.declared.changes.Entry.{Entry}
+use Rattle.listing_plan.specs.Plans.{plan_bytes}
 use Rattle.share_asks.specs.declared.ask.Ask.{Ask}
+use Rattle.share_core.specs.declared.answer.ReplyContent.{ReplyContent}
 use Rattle.share_history.specs.Sessions.{is_stopped}
 use Rattle.share_replies.specs.Settings.{Settings}
 use Rattle.share_replies.specs.Replies.{Reply, Answer, Replies, Holds, answer_to}
@@ -81,6 +83,11 @@ abbrev pub turn_with : ℕ → List Entry → Connection → (bytes : Bool → L
 turn_with number h c bytes close =
     let left = one_more c in let last = last_by h left.served close in let end = option_or last (end_of_input left) in
     record { history = h; connection = ended_by end left; written = reply_lines number (bytes (is_some last)) ++ end_line number end }
+
+-- The effect of a reply with this content.
+abbrev pub reply_turn : ℕ → List Entry → Connection → ReplyContent → (close : Bool) → Turn
+reply_turn number h c content close =
+    turn_with number h c (with_head content.status content.form (plan_bytes content.plan)) close
 
 -- The effect of a refusal with a status.
 abbrev pub refused_with : ℕ → List Entry → Connection → (status : ℕ) → Turn

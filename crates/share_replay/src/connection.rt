@@ -3,7 +3,7 @@
 ghost use Rattle.std.specs.Prelude.{◌≡◌, ◌+◌, ◌<◌, true, false, Some, None, is_some, option_copied, if◌then◌else◌, IfOk, IfSome, OnOk};
 ghost use Rattle.std.specs.Option.{option_or};
 ghost use Rattle.share_asks.specs.Valid.{IsValidWant};
-ghost use Rattle.share_replay.specs.Connections.{asked_on, closes, end_at_close, end_if_idle, end_of_input, ended_by, fault_on, gets, last_end, opened};
+ghost use Rattle.share_replay.specs.Connections.{asked_on, closes, end_at_close, end_if_idle, end_of_input, ended_by, fault_on, gets, last_end, new_connection};
 ghost use Rattle.share_replay.specs.Turns.{last_by, most_requests, one_more};
 ghost use Rattle.share_history.specs.Sessions.{is_stopped};
 
@@ -43,7 +43,7 @@ impl Model for Connection {
 
 impl Connection {
     pub(crate) fn open(alloc: Global, role: Role) -> Result<Connection, AllocError>
-        ensures { IfOk result (λ c. c ≡ opened role) }
+        ensures { IfOk result (λ c. c ≡ new_connection role) }
     {
         Ok(Connection {
             intake: Intake::new(alloc, role)?,

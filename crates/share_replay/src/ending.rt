@@ -1,19 +1,16 @@
 //! Ends of connections at the end of a script.
 
-ghost use Rattle.std.specs.Prelude.{◌≡◌, ◌≤◌, length, option_copied, OnOk, OnErr, MatchResult};
-ghost use Rattle.std.specs.Io.KnownBytes.{Appends};
+ghost use Rattle.std.specs.Prelude.{◌≡◌, ◌≤◌, length, option_copied, OnOk, OnErr};
 ghost use Rattle.std.specs.Option.{option_and_then};
-ghost use Rattle.daap_outside.specs.Told.{AppendsPrefix};
 ghost use Rattle.share_replay.specs.Connections.{last_end};
-ghost use Rattle.share_replay.specs.Ends.{end_line};
 ghost use Rattle.share_replay.specs.Machine.{last_lines};
-ghost use Rattle.share_replay.specs.Stops.{CountsFault};
+ghost use Rattle.share_replay.specs.Outputs.{CountsErrors, WritesAll, WritesPrefix};
 
 use crate::connection::Connection;
 use crate::ends::End;
 use crate::replay_error::ReplayError;
 use crate::telling::tell_end;
-use daap_outside::Sink;
+use outside_net::Sink;
 use std::alloc::Global;
 
 /// Writes for each connection that has not ended how it ends, in order of number.
@@ -23,9 +20,10 @@ pub(crate) fn tell_last_ends<W: Sink>(
     sink: &mut W,
 ) -> Result<(), ReplayError>
     requires few { length connections.now ≤ 64 }
-    ensures told { OnOk result (Appends (W.taken sink.old) (W.taken sink.new) (last_lines 1 connections.now)) }
-    ensures part { OnErr result (AppendsPrefix (W.taken sink.old) (W.taken sink.new) (last_lines 1 connections.now)) }
-    ensures count { MatchResult result (λ _. W.faults sink.new ≡ W.faults sink.old) (λ e. CountsFault (W.faults sink.old) (W.faults sink.new) e) }
+    ensures told { OnOk result (WritesAll W.Sink sink.old sink.new (last_lines 1 connections.now)) }
+    ensures part { OnErr result (
+        WritesPrefix W.Sink sink.old sink.new (last_lines 1 connections.now)) }
+    ensures count { CountsErrors W.Sink sink.old sink.new result }
 {
     let mut number = 0;
     for slot in connections {

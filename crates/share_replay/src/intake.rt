@@ -42,7 +42,8 @@ impl Intake {
         ensures within { self.new.fed ≤ length self.new.bytes.items }
         ensures role { self.new.reader.role ≡ self.old.reader.role }
         ensures bytes { OnOk result (self.new.bytes.items ≡ self.old.bytes.items ++ more.now) }
-        ensures read { OnOk result ((asks : List Ask) → IsReadOn asks self.old → IsReadOn asks self.new) }
+        ensures read { OnOk result ((asks : List Ask)
+            → IsReadOn asks self.old → IsReadOn asks self.new) }
     {
         self.bytes.extend_from_slice(more)?;
         self.read_on()
@@ -54,7 +55,8 @@ impl Intake {
         ensures within { self.new.fed ≤ length self.new.bytes.items }
         ensures role { self.new.reader.role ≡ self.old.reader.role }
         ensures bytes { self.new.bytes.items ≡ self.old.bytes.items }
-        ensures read { OnOk result ((asks : List Ask) (ask : Ask) → self.old.next ≡ Some ask → IsReadOn asks self.old → IsReadOn (asks ++ ask ∷ []) self.new) }
+        ensures read { OnOk result ((asks : List Ask) (ask : Ask) → self.old.next ≡ Some ask
+            → IsReadOn asks self.old → IsReadOn (asks ++ ask ∷ []) self.new) }
     {
         put_ask(&mut self.next, None);
         self.read_on()
@@ -66,7 +68,8 @@ impl Intake {
         ensures within { self.new.fed ≤ length self.new.bytes.items }
         ensures role { self.new.reader.role ≡ self.old.reader.role }
         ensures bytes { self.new.bytes.items ≡ self.old.bytes.items }
-        ensures read { OnOk result ((asks : List Ask) → HasPassed asks self.old → IsReadOn asks self.new) }
+        ensures read { OnOk result ((asks : List Ask)
+            → HasPassed asks self.old → IsReadOn asks self.new) }
     {
         if self.next.is_some() || self.fault.is_some() {
             return Ok(());

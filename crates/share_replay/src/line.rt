@@ -1,7 +1,7 @@
 //! Reads one line of a script.
 
 ghost use Rattle.std.specs.Prelude.{◌≡◌, ◌≢◌, [], ◌<◌, length, Some, None, IfOk, IfSome, MatchOption};
-ghost use Rattle.share_replay.specs.Lines.{hex_value, escape_of, hex_byte, in_front, written_by, number_in, before, behind, first_word, other_words, role_named, open_told, text_told, close_told, line_tells};
+ghost use Rattle.share_replay.specs.Lines.{hex_value, escape_of, hex_byte, in_front, written_by, number_in, before, behind, first_word, other_words, role_in, open_told, text_told, close_told, line_tells};
 
 use crate::delivery::Delivery;
 use dmap_tags::Bytes;
@@ -32,7 +32,7 @@ fn read_open(rest: &[u8]) -> Option<Delivery>
 {
     let (word, role) = split_word(rest)?;
     let number = read_number(word)?;
-    let role = role_named(role)?;
+    let role = role_in(role)?;
     Some(Delivery::Open { number, role })
 }
 
@@ -45,7 +45,7 @@ fn read_text(alloc: Global, rest: &[u8]) -> Result<Option<Delivery>, AllocError>
     let Some(number) = read_number(word) else {
         return Ok(None);
     };
-    let Some(bytes) = unescaped(alloc, text)? else {
+    let Some(bytes) = unescape(alloc, text)? else {
         return Ok(None);
     };
     Ok(Some(Delivery::Text { number, bytes }))
@@ -92,8 +92,8 @@ fn read_number(digits: &[u8]) -> Option<u32>
     }
 }
 
-fn role_named(word: &[u8]) -> Option<Role>
-    ensures { result ≡ role_named word.now }
+fn role_in(word: &[u8]) -> Option<Role>
+    ensures { result ≡ role_in word.now }
 {
     if word == b"listen".as_slice() {
         Some(Role::Listen)
@@ -106,7 +106,7 @@ fn role_named(word: &[u8]) -> Option<Role>
 
 /// Returns the bytes that a text encodes; `None` if a byte or an escape is malformed.
 #[tactic(auto, using(crate::proofs::Texts::one_byte_more, crate::proofs::Texts::none_in_front))]
-fn unescaped(alloc: Global, text: &[u8]) -> Result<Option<Bytes>, AllocError>
+fn unescape(alloc: Global, text: &[u8]) -> Result<Option<Bytes>, AllocError>
     ensures { IfOk result (λ bytes. bytes ≡ written_by text.now) }
 {
     let mut bytes = Vec::new(alloc);

@@ -1,19 +1,17 @@
 //! The effect of a line of a script on its connection.
 
-ghost use Rattle.std.specs.Prelude.{◌≡◌, IfOk, OnOk, OnErr, MatchResult, Some, option_map, slice_set};
+ghost use Rattle.std.specs.Prelude.{◌≡◌, IfOk, OnOk, OnErr, Some, option_map};
 ghost use Rattle.share_replay.specs.Connections.{gets};
-ghost use Rattle.std.specs.Io.KnownBytes.{Appends};
-ghost use Rattle.daap_outside.specs.Told.{AppendsPrefix};
 ghost use Rattle.share_replay.specs.Ends.{end_line};
-ghost use Rattle.share_replay.specs.Machine.{connection_at, line_place, nobody, number_of, reached, told_at_once};
-ghost use Rattle.share_replay.specs.Stops.{CountsFault};
+ghost use Rattle.share_replay.specs.Machine.{connection_at, connections_after, end_at_once, line_place, nobody, slot_after, told_at_once};
+ghost use Rattle.share_replay.specs.Outputs.{CountsErrors, WritesAll, WritesPrefix};
 ghost use Rattle.share_replay.specs.declared.delivery.Delivery.TheVariants.{Close};
 
 use crate::connection::Connection;
 use crate::delivery::Delivery;
 use crate::replay_error::ReplayError;
 use crate::telling::tell_end;
-use daap_outside::Sink;
+use outside_net::Sink;
 use std::alloc::{AllocError, Global};
 
 /// The most connections.
@@ -48,10 +46,12 @@ pub(crate) fn reach<W: Sink>(
     connections: &mut [Option<Connection>],
     sink: &mut W,
 ) -> Result<(), ReplayError>
-    ensures reached { OnOk result (connections.new ≡ slice_set connections.old (line_place line.now) (reached line.now (connection_at connections.old (line_place line.now)))) }
-    ensures told { OnOk result (Appends (W.taken sink.old) (W.taken sink.new) (end_line (number_of line.now) (told_at_once line.now (connection_at connections.old (line_place line.now))))) }
-    ensures part { OnErr result (AppendsPrefix (W.taken sink.old) (W.taken sink.new) (end_line (number_of line.now) (told_at_once line.now (connection_at connections.old (line_place line.now))))) }
-    ensures count { MatchResult result (λ _. W.faults sink.new ≡ W.faults sink.old) (λ e. CountsFault (W.faults sink.old) (W.faults sink.new) e) }
+    ensures reached { OnOk result (connections.new ≡ connections_after line.now connections.old) }
+    ensures told { OnOk result (WritesAll W.Sink sink.old sink.new
+        (end_at_once line.now (connection_at connections.old (line_place line.now)))) }
+    ensures part { OnErr result (WritesPrefix W.Sink sink.old sink.new
+        (end_at_once line.now (connection_at connections.old (line_place line.now)))) }
+    ensures count { CountsErrors W.Sink sink.old sink.new result }
 {
     let place = place_of(line);
     if place >= connections.len() {
@@ -66,10 +66,12 @@ fn reach_one<W: Sink>(
     slot: &mut Option<Connection>,
     sink: &mut W,
 ) -> Result<(), ReplayError>
-    ensures reached { OnOk result (slot.new ≡ reached line.now slot.old) }
-    ensures told { OnOk result (Appends (W.taken sink.old) (W.taken sink.new) (end_line (number_of line.now) (told_at_once line.now slot.old))) }
-    ensures part { OnErr result (AppendsPrefix (W.taken sink.old) (W.taken sink.new) (end_line (number_of line.now) (told_at_once line.now slot.old))) }
-    ensures count { MatchResult result (λ _. W.faults sink.new ≡ W.faults sink.old) (λ e. CountsFault (W.faults sink.old) (W.faults sink.new) e) }
+    ensures reached { OnOk result (slot.new ≡ slot_after line.now slot.old) }
+    ensures told { OnOk result (
+        WritesAll W.Sink sink.old sink.new (end_at_once line.now slot.old)) }
+    ensures part { OnErr result (
+        WritesPrefix W.Sink sink.old sink.new (end_at_once line.now slot.old)) }
+    ensures count { CountsErrors W.Sink sink.old sink.new result }
 {
     match line {
         Delivery::Open { role, .. } => match Connection::open(alloc, *role) {
@@ -108,10 +110,12 @@ fn close_one<W: Sink>(
     slot: &mut Option<Connection>,
     sink: &mut W,
 ) -> Result<(), ReplayError>
-    ensures reached { OnOk result (slot.new ≡ reached (Close number) slot.old) }
-    ensures told { OnOk result (Appends (W.taken sink.old) (W.taken sink.new) (end_line number (told_at_once (Close number) slot.old))) }
-    ensures part { OnErr result (AppendsPrefix (W.taken sink.old) (W.taken sink.new) (end_line number (told_at_once (Close number) slot.old))) }
-    ensures count { MatchResult result (λ _. W.faults sink.new ≡ W.faults sink.old) (λ e. CountsFault (W.faults sink.old) (W.faults sink.new) e) }
+    ensures reached { OnOk result (slot.new ≡ slot_after (Close number) slot.old) }
+    ensures told { OnOk result (WritesAll W.Sink sink.old sink.new
+        (end_line number (told_at_once (Close number) slot.old))) }
+    ensures part { OnErr result (WritesPrefix W.Sink sink.old sink.new
+        (end_line number (told_at_once (Close number) slot.old))) }
+    ensures count { CountsErrors W.Sink sink.old sink.new result }
 {
     match slot {
         Some(connection) => {

@@ -1,6 +1,6 @@
 //! Errors of a replay.
 
-use daap_outside::Failed;
+use outside_net::Failed;
 use std::alloc::AllocError;
 use thiserror::Error;
 

@@ -1,18 +1,16 @@
 //! Plays a script.
 
-ghost use Rattle.std.specs.Prelude.{◌≡◌, OnOk, OnErr, MatchResult};
-ghost use Rattle.std.specs.Io.KnownBytes.{Appends};
-ghost use Rattle.daap_outside.specs.Told.{AppendsPrefix};
-ghost use Rattle.share_replay.specs.Machine.{script_bytes, script_history};
-ghost use Rattle.share_replay.specs.Played.{IsBrokenOff};
-ghost use Rattle.share_replay.specs.Stops.{CountsFault};
+ghost use Rattle.std.specs.Prelude.{◌≡◌, OnOk, OnErr};
+ghost use Rattle.share_replay.specs.Machine.{replay_bytes, replay_history};
+ghost use Rattle.share_replay.specs.Moments.{BreaksScript};
+ghost use Rattle.share_replay.specs.Outputs.{CountsErrors, WritesAll, WritesPrefix};
 
 use crate::ending::tell_last_ends;
 use crate::playing::play;
 use crate::reaching::nobody;
 use crate::replay_error::ReplayError;
 use crate::script::Script;
-use daap_outside::Sink;
+use outside_net::Sink;
 use share_core::Share;
 use std::alloc::Global;
 
@@ -28,12 +26,15 @@ pub fn replay<W: Sink>(
     share: &mut Share,
     sink: &mut W,
 ) -> Result<(), ReplayError>
-    ensures history { OnOk result (share.new.history ≡ script_history share.old.settings share.old.history script.now) }
-    ensures written { OnOk result (Appends (W.taken sink.old) (W.taken sink.new) (script_bytes share.old.settings share.old.history script.now)) }
-    ensures part { OnErr result (IsBrokenOff share.old.settings share.old.history script.now share.new.history (W.taken sink.old) (W.taken sink.new)) }
-    ensures front { OnErr result (AppendsPrefix (W.taken sink.old) (W.taken sink.new) (script_bytes share.old.settings share.old.history script.now)) }
+    ensures history { OnOk result (share.new.history ≡ replay_history share.old script.now) }
+    ensures written { OnOk result (
+        WritesAll W.Sink sink.old sink.new (replay_bytes share.old script.now)) }
+    ensures part { OnErr result (
+        BreaksScript W.Sink script.now share.old share.new sink.old sink.new) }
+    ensures front { OnErr result (
+        WritesPrefix W.Sink sink.old sink.new (replay_bytes share.old script.now)) }
     ensures settings { share.new.settings ≡ share.old.settings }
-    ensures count { MatchResult result (λ _. W.faults sink.new ≡ W.faults sink.old) (λ e. CountsFault (W.faults sink.old) (W.faults sink.new) e) }
+    ensures count { CountsErrors W.Sink sink.old sink.new result }
 {
     let mut connections = nobody(alloc)?;
     let lines = script.lines();

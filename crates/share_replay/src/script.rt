@@ -97,7 +97,7 @@ fn read_lines(alloc: Global, text: &[u8]) -> Result<Vec<Delivery>, ScriptError>
     ensures refused { IfErr result (λ error. IsRefused text.now error) }
 {
     let mut lines = Vec::new(alloc);
-    let mut opened = none_opened();
+    let mut opened = new_flags();
     let mut left = text;
     let mut line = 0;
     while !left.is_empty() {
@@ -127,7 +127,7 @@ fn split_line(text: &[u8]) -> Option<(&[u8], &[u8])>
 }
 
 /// Returns the flags of the numbers up to 64, none of them opened.
-fn none_opened() -> [bool; 65]
+fn new_flags() -> [bool; 65]
     ensures size { length result ≡ 65 }
     ensures none { AreOpened result [] }
 {
@@ -139,7 +139,8 @@ fn none_opened() -> [bool; 65]
 fn follow(opened: &mut [bool], told: &Delivery) -> bool
     requires { length opened.old ≡ 65 }
     ensures { (lines : List Delivery) → AreOpened opened.old lines
-        → (result ≡ may_follow lines told.now) × (result ≡ true → AreOpened opened.new (lines ++ told.now ∷ [])) }
+        → (result ≡ may_follow lines told.now)
+        × (result ≡ true → AreOpened opened.new (lines ++ told.now ∷ [])) }
 {
     match told {
         Delivery::Open { number, .. } => open_number(opened, *number),

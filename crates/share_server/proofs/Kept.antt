@@ -2,7 +2,7 @@
 use Rattle.std.proofs.Common.{◌≡◌, ◌≢◌, ℕ, zero, suc, ◌+◌, List, [], ◌∷◌, ◌++◌, length, Bool, true, false, cond, ◌||◌, is_some, Some, None, refl, sym, ap, ◌∙◌, subst, append_assoc, append-nil, length-append, arith}
 use Rattle.std.proofs.lemmas.List.Elements.{All-append}
 use Rattle.std.specs.Prelude.{All, Result, Ok, Err, OnOk, OnErr, is_ok, is_err}
-use Rattle.daap_outside.specs.Counts.{CountsFaults, Rose}
+use Rattle.outside_net.specs.Counts.{CountsFaults, Rose}
 use Rattle.item_model.specs.declared.changes.Edit.{Edit as OneEdit}
 use Rattle.item_model.specs.declared.changes.Entry.{Entry}
 use Rattle.item_model.specs.declared.changes.Entry.TheVariants as entry

@@ -29,20 +29,20 @@ use Rattle.share_server.proofs.InTurn.{but_nothing}
 use Rattle.share_server.proofs.Listening.{last_is_quiet, players_change_nothing}
 use Rattle.share_server.proofs.Losing.{kept_added, loses_none, unheard}
 use Rattle.share_server.specs.Serving.{LinkServed, limit_of}
-use Rattle.share_server.specs.Written.{IsGivenUp}
-use Rattle.share_server.specs.Steps.{Goes, Ends, Midway, Feeds, Underway, Pumps, EndsInput}
+use Rattle.share_server.specs.Written.{Got500}
+use Rattle.share_server.specs.Progress.{RequestsServed, Ends, BytesServed, FeedDone, ReadsServed, PumpDone, EndsInput}
 use Rattle.share_server.proofs.Outcomes.{cut_whole, ended_at, up_given}
 use Rattle.share_server.proofs.Stepping.{ends_longer}
 use Rattle.share_server.proofs.Waiting.{serves_none}
 
 -- ---- the begin
 
-pub goes_nowhere : (limit : ℕ) (k : Pass) (taken : Option (List ℕ)) → Goes limit k k taken taken [] []
+pub goes_nowhere : (limit : ℕ) (k : Pass) (taken : Option (List ℕ)) → RequestsServed limit k k taken taken [] []
 goes_nowhere limit k taken = record { serves = serves_none k; goes_on = tt; written = Appends-nil taken }
 
 -- no byte was read yet
 pub started : (role : Role) (limit : ℕ) (k : Pass) (left taken : Option (List ℕ)) (r : Reader) → 0 < limit → r.role ≡ role → r.ready ≡ None → r.error ≡ None
-    → HasRead [] [] r → Underway role limit k k left left taken taken r [] 0
+    → HasRead [] [] r → ReadsServed role limit k k left left taken taken r [] 0
 started role limit k left taken r some role_is idle fine begins = record {
   some = some;
   bytes = [];
@@ -90,10 +90,10 @@ ended_inside role bytes limit k k' left left' taken taken' served end some ends 
 -- ---- one read more
 
 pub pumped : (role : Role) (limit : ℕ) (k k1 k2 : Pass) (left left1 left2 taken taken1 taken2 : Option (List ℕ)) (r r2 : Reader) (served served2 : List Served) (consumed consumed2 : ℕ) (piece : List ℕ) (o : Option LinkEnd)
-    → Underway role limit k k1 left left1 taken taken1 r served consumed → Consumes left1 left2 piece
+    → ReadsServed role limit k k1 left left1 taken taken1 r served consumed → Consumes left1 left2 piece
     → consumed2 ≡ min (consumed + length piece) (2 ^ 64 - 1)
-    → ((bytes : List ℕ) → Midway role bytes limit k k1 taken taken1 r served → Feeds role bytes piece limit k k2 taken taken2 r2 served2 o)
-    → Pumps role limit k k2 left left2 taken taken2 r2 served2 consumed2 o
+    → ((bytes : List ℕ) → BytesServed role bytes limit k k1 taken taken1 r served → FeedDone role bytes piece limit k k2 taken taken2 r2 served2 o)
+    → PumpDone role limit k k2 left left2 taken taken2 r2 served2 consumed2 o
 pumped role limit k k1 k2 left left1 left2 taken taken1 taken2 r r2 served served2 consumed consumed2 piece None under read counted feeds = record {
   some = under.some;
   bytes = under.bytes ++ piece;
@@ -107,17 +107,17 @@ pumped role limit k k1 k2 left left1 left2 taken taken1 taken2 r r2 served serve
 
 -- the same if the read left the output, and the writes left the input
 pub pumped_on : (role : Role) (limit : ℕ) (k k1 k2 : Pass) (left left1 left2 left3 taken taken1 taken2 taken3 : Option (List ℕ)) (r r2 : Reader) (served served2 : List Served) (consumed consumed2 : ℕ) (piece : List ℕ) (o : Option LinkEnd)
-    → Underway role limit k k1 left left1 taken taken1 r served consumed → Consumes left1 left2 piece → taken2 ≡ taken1 → left3 ≡ left2
+    → ReadsServed role limit k k1 left left1 taken taken1 r served consumed → Consumes left1 left2 piece → taken2 ≡ taken1 → left3 ≡ left2
     → consumed2 ≡ min (consumed + length piece) (2 ^ 64 - 1)
-    → ((bytes : List ℕ) → Midway role bytes limit k k1 taken taken2 r served → Feeds role bytes piece limit k k2 taken taken3 r2 served2 o)
-    → Pumps role limit k k2 left left3 taken taken3 r2 served2 consumed2 o
+    → ((bytes : List ℕ) → BytesServed role bytes limit k k1 taken taken2 r served → FeedDone role bytes piece limit k k2 taken taken3 r2 served2 o)
+    → PumpDone role limit k k2 left left3 taken taken3 r2 served2 consumed2 o
 pumped_on role limit k k1 k2 left left1 left2 left3 taken taken1 taken2 taken3 r r2 served served2 consumed consumed2 piece o under read untouched unread counted feeds =
-    subst (λ (l : Option (List ℕ)). Pumps role limit k k2 left l taken taken3 r2 served2 consumed2 o) (sym unread)
+    subst (λ (l : Option (List ℕ)). PumpDone role limit k k2 left l taken taken3 r2 served2 consumed2 o) (sym unread)
     (pumped role limit k k1 k2 left left1 left2 taken taken1 taken3 r r2 served served2 consumed consumed2 piece o under read counted
-    (λ bytes midway. feeds bytes (subst (λ (t : Option (List ℕ)). Midway role bytes limit k k1 taken t r served) (sym untouched) midway)))
+    (λ bytes midway. feeds bytes (subst (λ (t : Option (List ℕ)). BytesServed role bytes limit k k1 taken t r served) (sym untouched) midway)))
 
 module _ (role : Role) (limit : ℕ) (k k' : Pass) (left left1 left2 taken taken1 taken2 : Option (List ℕ)) (r : Reader) (served : List Served) (consumed : ℕ)
-    (under : Underway role limit k k' left left1 taken taken1 r served consumed) (untouched : taken2 ≡ taken1) where
+    (under : ReadsServed role limit k k' left left1 taken taken1 r served consumed) (untouched : taken2 ≡ taken1) where
   abbrev asks_here : List Ask
   asks_here = under.midway.asks
 
@@ -215,7 +215,7 @@ spent_at_once role limit k left taken none =
     told_input (Some all) = refl
 
 -- there was no memory to read
-pub unbegun : (role : Role) (limit : ℕ) (k : Pass) (left taken taken' : Option (List ℕ)) (end : LinkEnd) → 0 < limit → IsGivenUp taken taken' end
+pub unbegun : (role : Role) (limit : ℕ) (k : Pass) (left taken taken' : Option (List ℕ)) (end : LinkEnd) → 0 < limit → Got500 taken taken' end
     → LinkEnded role limit k k left taken taken' [] end
 unbegun role limit k left taken taken' end some up =
     ended_inside role [] limit k k left left taken taken' [] end some

@@ -20,8 +20,8 @@ use Rattle.share_server.specs.Losses.{is_loss}
 use Rattle.share_server.proofs.InTurn.{but_nothing}
 use Rattle.share_server.proofs.Losing.{loses_none}
 use Rattle.share_server.specs.Ends.{EndsBehind, GoOnToLast, WantsMemory, IsCutOf, EndsInside, wanting}
-use Rattle.share_server.specs.Written.{IsGivenUp, IsRefused}
-use Rattle.share_server.specs.Steps.{Ends}
+use Rattle.share_server.specs.Written.{Got500, IsRefused}
+use Rattle.share_server.specs.Progress.{Ends}
 
 -- ---- bytes
 
@@ -78,7 +78,7 @@ module _ (role : Role) (bytes : List ℕ) (settings : Settings) (limit : ℕ) (h
   due_inside output Memory behind is = absurd (never Memory (λ e. cc) (λ e. cc) (λ e. cc) behind)
 
 -- there was no memory to write a refusal
-pub refused_anyway : (error : HeadError) (taken taken' : Option (List ℕ)) (end : LinkEnd) → IsGivenUp taken taken' end → IsRefused error taken taken' end
+pub refused_anyway : (error : HeadError) (taken taken' : Option (List ℕ)) (end : LinkEnd) → Got500 taken taken' end → IsRefused error taken taken' end
 refused_anyway error taken taken' Closed up = absurd up
 refused_anyway error taken taken' (Cut at) up = absurd up
 refused_anyway error taken taken' (Refused status) up = absurd up
@@ -116,7 +116,7 @@ module _ (role : Role) (bytes : List ℕ) (limit : ℕ) (k k' : Pass) (taken tak
 
   -- an allocation failed: the 500 may follow this base
   pub up_given : (end : LinkEnd) → GoOnToLast limit k'.seen asks served
-      → WantsMemory k.settings limit k'.seen asks served (base ++ failure_bytes true) → IsGivenUp taken' taken'' end → Ends role bytes limit k k' taken taken'' served end
+      → WantsMemory k.settings limit k'.seen asks served (base ++ failure_bytes true) → Got500 taken' taken'' end → Ends role bytes limit k k' taken taken'' served end
   up_given Closed on wants up = absurd up
   up_given (Cut at) on wants up = absurd up
   up_given (Refused status) on wants up = absurd up

@@ -22,8 +22,8 @@ use Rattle.share_server.proofs.Longer.{stays}
 use Rattle.share_server.specs.Losses.{ServesBut, Unacknowledged}
 use Rattle.share_server.proofs.InTurn.{serves_in_turn, serves_then_but, lost_behind}
 use Rattle.share_server.specs.Answering.{Says, IsLost}
-use Rattle.share_server.specs.Written.{IsGivenUp, IsSayable, WasWritten, said_bytes, whole, broken, left_out, replaced}
-use Rattle.share_server.specs.Steps.{Goes, Exchanges}
+use Rattle.share_server.specs.Written.{Got500, IsWritableReply, WasWritten, said_bytes, whole, broken, left_out, replaced}
+use Rattle.share_server.specs.Progress.{RequestsServed, ExchangeDone}
 use Rattle.share_server.proofs.Joined.{goes_on_joined, replies_joined}
 use Rattle.share_server.proofs.Outcomes.{cut_behind, cut_whole, due_inside, due_loses_none, ended_at, ended_with, up_given}
 
@@ -39,7 +39,7 @@ record GoesStill (limit : ℕ) (k k' : Pass) (taken taken' : Option (List ℕ)) 
   written : Appends taken taken' (replies k.settings limit k'.seen asks served)
 
 goes_still : (limit : ℕ) (k k1 k2 : Pass) (more : List Entry) (taken taken' : Option (List ℕ)) (asks : List Ask) (served : List Served)
-    → Goes limit k k1 taken taken' asks served → k2.seen ≡ k1.seen ++ more → GoesStill limit k k2 taken taken' asks served
+    → RequestsServed limit k k1 taken taken' asks served → k2.seen ≡ k1.seen ++ more → GoesStill limit k k2 taken taken' asks served
 goes_still limit k k1 k2 more taken taken' asks served goes grows =
     let later : Stays k.settings k.number limit k1.seen more 1 asks served = stays k.settings k.number limit k1.seen more 1 asks served goes.serves.are_served in
     record {
@@ -49,7 +49,7 @@ goes_still limit k k1 k2 more taken taken' asks served goes grows =
 
 -- a request was answered after those that were served
 answered_behind : (limit : ℕ) (k k1 k2 : Pass) (taken taken' : Option (List ℕ)) (asks : List Ask) (ask : Ask) (served : List Served) (s : Served)
-    → Goes limit k k1 taken taken' asks served → Serves k1 k2 (ask ∷ []) (s ∷ []) → AllButLast limit k k2 taken taken' asks ask served s
+    → RequestsServed limit k k1 taken taken' asks served → Serves k1 k2 (ask ∷ []) (s ∷ []) → AllButLast limit k k2 taken taken' asks ask served s
 answered_behind limit k k1 k2 taken taken' asks ask served s goes one =
     let still : GoesStill limit k k2 taken taken' asks served = goes_still limit k k1 k2 one.fresh.more taken taken' asks served goes one.fresh.grows in
     record {
@@ -88,7 +88,7 @@ module _ (limit : ℕ) (k k' : Pass) (taken taken' taken'' : Option (List ℕ)) 
 
   -- it is written whole
   by_due : (d : Option LinkEnd) → d ≡ due_here → Appends taken' taken'' (bytes_here (is_some d))
-      → Exchanges limit k k' taken taken'' asks ask (served ++ s ∷ []) d
+      → ExchangeDone limit k k' taken taken'' asks ask (served ++ s ∷ []) d
   by_due None is last =
       let same : 1 + length served ≡ length served + 1 = omega arith in
       record {
@@ -106,10 +106,10 @@ module _ (limit : ℕ) (k k' : Pass) (taken taken' taken'' : Option (List ℕ)) 
       (ap (λ d. base ++ bytes_here (is_some d)) is ∙ all_replies))
 
   by_outcome : (d end : Option LinkEnd) → d ≡ due_here → WasWritten (bytes_here (is_some d)) s.added d taken' taken'' end
-      → Exchanges limit k k' taken taken'' asks ask (served ++ s ∷ []) end
-  by_outcome d end is (whole last e) = subst (λ o. Exchanges limit k k' taken taken'' asks ask (served ++ s ∷ []) o) (sym e) (by_due d is last)
+      → ExchangeDone limit k k' taken taken'' asks ask (served ++ s ∷ []) end
+  by_outcome d end is (whole last e) = subst (λ o. ExchangeDone limit k k' taken taken'' asks ask (served ++ s ∷ []) o) (sym e) (by_due d is last)
   by_outcome d end is (broken part e) =
-      subst (λ o. Exchanges limit k k' taken taken'' asks ask (served ++ s ∷ []) o) (sym e)
+      subst (λ o. ExchangeDone limit k k' taken taken'' asks ask (served ++ s ∷ []) o) (sym e)
       (λ role bytes begin.
       ended_with role bytes limit k k' taken taken' taken'' (asks ++ ask ∷ []) (served ++ s ∷ []) begin.rest base begin.all all.serves all.written
       (take part.0 (bytes_here (is_some d))) LinkFault refl part.2
@@ -117,12 +117,12 @@ module _ (limit : ℕ) (k k' : Pass) (taken taken' taken'' : Option (List ℕ)) 
       (subst (λ all_bytes. IsCutOf (base ++ take part.0 (bytes_here (is_some d))) all_bytes) (ap (λ o. base ++ bytes_here (is_some o)) is ∙ all_replies)
       (cut_behind base (bytes_here (is_some d)) part.0))))
   by_outcome d end is (left_out same e) =
-      subst (λ o. Exchanges limit k k' taken taken'' asks ask (served ++ s ∷ []) o) (sym e)
+      subst (λ o. ExchangeDone limit k k' taken taken'' asks ask (served ++ s ∷ []) o) (sym e)
       (λ role bytes begin.
       ended_at role bytes limit k k' taken taken' taken'' (asks ++ ask ∷ []) (served ++ s ∷ []) begin.rest base begin.all all.serves all.written
       Memory refl same (to_last, without_last parts refl))
   by_outcome d end is (replaced none up given e) =
-      subst (λ o. Exchanges limit k k' taken taken'' asks ask (served ++ s ∷ []) o) (sym e)
+      subst (λ o. ExchangeDone limit k k' taken taken'' asks ask (served ++ s ∷ []) o) (sym e)
       (λ role bytes begin.
       up_given role bytes limit k k' taken taken' taken'' (asks ++ ask ∷ []) (served ++ s ∷ []) begin.rest base begin.all all.serves all.written
       up to_last (in_its_place parts none refl) given)
@@ -134,16 +134,16 @@ said_as settings p ask s None says last =
     ap (λ b. cond b (failure_bytes last) (answer_bytes (answer_to settings (answered_on s.added p) ask.want) last)) failed
 said_as settings p ask s (Some said) says last = says.2 last
 
-pub sayable : (settings : Settings) (p : List Entry) (ask : Ask) (s : Served) (said : Option ReplyContent) → Says settings p ask s said → IsSayable said
-sayable settings p ask s None says = tt
-sayable settings p ask s (Some said) says = (says.0, says.1)
+pub writable : (settings : Settings) (p : List Entry) (ask : Ask) (s : Served) (said : Option ReplyContent) → Says settings p ask s said → IsWritableReply said
+writable settings p ask s None says = tt
+writable settings p ask s (Some said) says = (says.0, says.1)
 
 -- a request was answered, and its reply was written or not
 pub exchanged : (limit : ℕ) (k k1 k2 : Pass) (taken taken' taken'' : Option (List ℕ)) (asks : List Ask) (ask : Ask) (served : List Served) (s : Served) (said : Option ReplyContent) (stopped : Bool) (d end : Option LinkEnd)
-    → Goes limit k k1 taken taken' asks served → Serves k1 k2 (ask ∷ []) (s ∷ []) → Says k1.settings (at_point k2.seen s) ask s said
+    → RequestsServed limit k k1 taken taken' asks served → Serves k1 k2 (ask ∷ []) (s ∷ []) → Says k1.settings (at_point k2.seen s) ask s said
     → stopped ≡ is_stopped (at_point k2.seen s) → d ≡ end_behind limit (length served + 1) ask.close stopped
     → WasWritten (said_bytes said (is_some d)) s.added d taken' taken'' end
-    → Exchanges limit k k2 taken taken'' asks ask (served ++ s ∷ []) end
+    → ExchangeDone limit k k2 taken taken'' asks ask (served ++ s ∷ []) end
 exchanged limit k k1 k2 taken taken' taken'' asks ask served s said stopped d end goes serves says stops is written =
     let settings : k1.settings ≡ k.settings = ap (λ p. p.settings) goes.serves.stays in
     by_outcome limit k k2 taken taken' taken'' asks ask served s (answered_behind limit k k1 k2 taken taken' asks ask served s goes serves) d end
@@ -155,15 +155,15 @@ exchanged limit k k1 k2 taken taken' taken'' asks ask served s said stopped d en
 
 -- reserving capacity for its report failed, so it was not answered
 pub unserved : (limit : ℕ) (k k' : Pass) (taken taken' taken'' : Option (List ℕ)) (asks : List Ask) (ask : Ask) (served : List Served) (end : LinkEnd)
-    → Goes limit k k' taken taken' asks served → IsGivenUp taken' taken'' end → Exchanges limit k k' taken taken'' asks ask served (Some end)
+    → RequestsServed limit k k' taken taken' asks served → Got500 taken' taken'' end → ExchangeDone limit k k' taken taken'' asks ask served (Some end)
 unserved limit k k' taken taken' taken'' asks ask served end goes up = λ role bytes begin.
     up_given role bytes limit k k' taken taken' taken'' asks served begin.behind (replies k.settings limit k'.seen asks served) begin.first goes.serves
     goes.written end (inl goes.goes_on) (all_told refl) up
 
 -- its peer left while it was pending: all replies are written
 pub gone : (limit : ℕ) (k k1 k2 : Pass) (taken taken' taken'' : Option (List ℕ)) (asks : List Ask) (ask : Ask) (served : List Served)
-    → Goes limit k k1 taken taken' asks served → Serves k1 k2 [] [] → taken'' ≡ taken'
-    → Exchanges limit k k2 taken taken'' asks ask served (Some LinkFault)
+    → RequestsServed limit k k1 taken taken' asks served → Serves k1 k2 [] [] → taken'' ≡ taken'
+    → ExchangeDone limit k k2 taken taken'' asks ask served (Some LinkFault)
 gone limit k k1 k2 taken taken' taken'' asks ask served goes none same = λ role bytes begin.
     let still : GoesStill limit k k2 taken taken' asks served = goes_still limit k k1 k2 none.fresh.more taken taken' asks served goes none.fresh.grows in
     let serves : Serves k k2 asks served =
@@ -174,8 +174,8 @@ gone limit k k1 k2 taken taken' taken'' asks ask served goes none same = λ role
 
 -- its edit was lost: all replies are written, and none to it
 pub unkept : (limit : ℕ) (k k1 k2 : Pass) (taken taken' taken'' : Option (List ℕ)) (asks : List Ask) (ask : Ask) (served : List Served)
-    → Goes limit k k1 taken taken' asks served → IsLost k1 k2 ask → taken'' ≡ taken'
-    → Exchanges limit k k2 taken taken'' asks ask served (Some FileFault)
+    → RequestsServed limit k k1 taken taken' asks served → IsLost k1 k2 ask → taken'' ≡ taken'
+    → ExchangeDone limit k k2 taken taken'' asks ask served (Some FileFault)
 unkept limit k k1 k2 taken taken' taken'' asks ask served goes is same = λ role bytes begin.
     let still : GoesStill limit k k2 taken taken' asks served = goes_still limit k k1 k2 is.serves.fresh.more taken taken' asks served goes is.serves.fresh.grows in
     record {

@@ -17,8 +17,8 @@ use Rattle.share_server.specs.Passes.{Pass}
 use Rattle.share_server.specs.Ends.{EndsInside, all_told, refusing}
 use Rattle.share_server.proofs.Endings.{ends_stay}
 use Rattle.share_server.proofs.Losing.{loses_longer}
-use Rattle.share_server.specs.Written.{IsGivenUp, IsRefused}
-use Rattle.share_server.specs.Steps.{Goes, Ends, Exchanges, Midway}
+use Rattle.share_server.specs.Written.{Got500, IsRefused}
+use Rattle.share_server.specs.Progress.{RequestsServed, Ends, ExchangeDone, BytesServed}
 use Rattle.share_server.proofs.Outcomes.{cut_behind, ended_with, up_given}
 
 -- a connection that ended inside bytes ended inside all that begin with them
@@ -60,7 +60,7 @@ rest_behind bytes piece rest d is =
 -- ---- the reader took a prefix of the chunk
 
 module _ (role : Role) (bytes piece : List ℕ) (n limit : ℕ) (k k' : Pass) (taken taken' : Option (List ℕ)) (r r1 r2 : Reader) (served : List Served) (o : Option Ask)
-    (midway : Midway role bytes limit k k' taken taken' r served) (role_stays : r1.role ≡ r.role) (fine : r1.error ≡ None)
+    (midway : BytesServed role bytes limit k k' taken taken' r served) (role_stays : r1.role ≡ r.role) (fine : r1.error ≡ None)
     (read : (fed : List ℕ) (handed : List Ask) → HasRead fed handed r → HasRead (fed ++ take n piece) handed r1) (waits : o ≡ r1.ready)
     (handed_out : r2 ≡ record r1 { ready = None })
     (next : (fed : List ℕ) (handed : List Ask) → HasRead fed handed r1 → HasRead fed (handed ++ option_to_list o) r2) where
@@ -74,7 +74,7 @@ module _ (role : Role) (bytes piece : List ℕ) (n limit : ℕ) (k k' : Pass) (t
   same_role = role_stays ∙ midway.role_is
 
   -- no request is whole yet
-  pub took_none : o ≡ None → Midway role fed_now limit k k' taken taken' r2 served
+  pub took_none : o ≡ None → BytesServed role fed_now limit k k' taken taken' r2 served
   took_none none = record {
     role_is = ap (λ (x : Reader). x.role) handed_out ∙ same_role;
     idle = ap (λ (x : Reader). x.ready) handed_out;
@@ -88,9 +88,9 @@ module _ (role : Role) (bytes piece : List ℕ) (n limit : ℕ) (k k' : Pass) (t
 
   -- it is complete and was served, and the connection stays open after it or ends
   pub took_one : (ask : Ask) (k2 : Pass) (taken2 : Option (List ℕ)) (served2 : List Served) → o ≡ Some ask
-      → ((start : Pass) (first : Option (List ℕ)) (asks : List Ask) → Goes limit start k' first taken' asks served
-      → Exchanges limit start k2 first taken2 asks ask served2 None)
-      → Midway role fed_now limit k k2 taken taken2 r2 served2
+      → ((start : Pass) (first : Option (List ℕ)) (asks : List Ask) → RequestsServed limit start k' first taken' asks served
+      → ExchangeDone limit start k2 first taken2 asks ask served2 None)
+      → BytesServed role fed_now limit k k2 taken taken2 r2 served2
   took_one ask k2 taken2 served2 some exchanges = record {
     role_is = ap (λ (x : Reader). x.role) handed_out ∙ same_role;
     idle = ap (λ (x : Reader). x.ready) handed_out;
@@ -103,8 +103,8 @@ module _ (role : Role) (bytes piece : List ℕ) (n limit : ℕ) (k k' : Pass) (t
   }
 
   pub ended_at_one : (ask : Ask) (k2 : Pass) (taken2 : Option (List ℕ)) (served2 : List Served) (end : LinkEnd) → o ≡ Some ask
-      → ((start : Pass) (first : Option (List ℕ)) (asks : List Ask) → Goes limit start k' first taken' asks served
-      → Exchanges limit start k2 first taken2 asks ask served2 (Some end))
+      → ((start : Pass) (first : Option (List ℕ)) (asks : List Ask) → RequestsServed limit start k' first taken' asks served
+      → ExchangeDone limit start k2 first taken2 asks ask served2 (Some end))
       → Ends role (bytes ++ piece) limit k k2 taken taken2 served2 end
   ended_at_one ask k2 taken2 served2 end some exchanges =
       let first = handed_join fed_now midway.asks r1 fed_read in
@@ -129,11 +129,11 @@ is_memory error.BodyTooLarge = inr (λ h. cc)
 is_memory error.HeadTooLarge = inr (λ h. cc)
 
 module _ (role : Role) (bytes : List ℕ) (limit : ℕ) (k k' : Pass) (taken taken' taken'' : Option (List ℕ)) (asks : List Ask) (served : List Served)
-    (goes : Goes limit k k' taken taken' asks served) where
+    (goes : RequestsServed limit k k' taken taken' asks served) where
   abbrev base : List ℕ
   base = replies k.settings limit k'.seen asks served
 
-  without_memory : (rest : List ℕ) (end : LinkEnd) → Joins role bytes asks rest → IsGivenUp taken' taken'' end → Ends role bytes limit k k' taken taken'' served end
+  without_memory : (rest : List ℕ) (end : LinkEnd) → Joins role bytes asks rest → Got500 taken' taken'' end → Ends role bytes limit k k' taken taken'' served end
   without_memory rest end joins up =
       up_given role bytes limit k k' taken taken' taken'' asks served rest base joins goes.serves goes.written end (inl goes.goes_on) (all_told refl) up
 
@@ -154,9 +154,9 @@ module _ (role : Role) (bytes : List ℕ) (limit : ℕ) (k k' : Pass) (taken tak
   refused_by rest e Memory reads refused = without_memory rest Memory reads.joins refused
 
 pub was_unread : (role : Role) (bytes piece : List ℕ) (limit : ℕ) (k k' : Pass) (taken taken' taken'' : Option (List ℕ)) (r r' : Reader) (served : List Served) (e : HeadError) (end : LinkEnd)
-    → Midway role bytes limit k k' taken taken' r served → r'.role ≡ r.role → r'.error ≡ Some e
+    → BytesServed role bytes limit k k' taken taken' r served → r'.role ≡ r.role → r'.error ≡ Some e
     → ((fed : List ℕ) (handed : List Ask) → HasRead fed handed r → HasRead (fed ++ piece) handed r')
-    → (e ≡ error.Memory → IsGivenUp taken' taken'' end) → (e ≢ error.Memory → IsRefused e taken' taken'' end)
+    → (e ≡ error.Memory → Got500 taken' taken'' end) → (e ≢ error.Memory → IsRefused e taken' taken'' end)
     → Ends role (bytes ++ piece) limit k k' taken taken'' served end
 was_unread role bytes piece limit k k' taken taken' taken'' r r' served e end midway role_stays is read memory refused = by_error (is_memory e)
   where

@@ -1,7 +1,7 @@
 -- What is written for a request that was served, and in which turns; or that its edit was added and lost.
 use Rattle.std.specs.Prelude.{◌≡◌, List, [], ◌∷◌, ◌++◌, length, Bool, true, false, Option, Some, None, Result, Ok, Err, ℕ}
 use Rattle.std.specs.declared.alloc.AllocError.{AllocError}
-use Rattle.daap_outside.specs.Counts.{Rose}
+use Rattle.outside_net.specs.Counts.{Rose}
 use Rattle.item_model.specs.declared.changes.Edit.{Edit}
 use Rattle.item_model.specs.declared.changes.Entry.{Entry}
 use Rattle.http_front.specs.ReplyHeads.{HasReason}

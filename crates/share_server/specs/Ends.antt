@@ -85,9 +85,4 @@ EndsAtEnd role input settings limit h asks served rest output Closed =
 EndsAtEnd role input settings limit h asks served rest output (Cut at) =
     Idles role input limit h asks served rest None × (rest ≢ []) × (at ≡ min (length input) (2 ^ 64 - 1))
     × (output ≡ replies settings limit h asks served)
-EndsAtEnd role input settings limit h asks served rest output (Refused status) = ⊥
-EndsAtEnd role input settings limit h asks served rest output Spent = ⊥
-EndsAtEnd role input settings limit h asks served rest output Stopped = ⊥
-EndsAtEnd role input settings limit h asks served rest output LinkFault = ⊥
-EndsAtEnd role input settings limit h asks served rest output FileFault = ⊥
-EndsAtEnd role input settings limit h asks served rest output Memory = ⊥
+EndsAtEnd role input settings limit h asks served rest output other = ⊥

@@ -1,7 +1,8 @@
 -- What a keeper of edits did while a handle made entries: it keeps the edits of each entry in order, except a last
 -- one that it lost.
 use Rattle.std.specs.Prelude.{◌≡◌, ◌≢◌, ℕ, List, [], ◌++◌, Bool, true, false, MatchBool, Option, Some, None, Ok}
-use Rattle.daap_outside.specs.Counts.{Rose}
+use Rattle.outside_net.specs.Counts.{Rose}
+use Rattle.edit_keeping.specs.declared.keeps.Keeps as keeper
 use Rattle.item_model.specs.declared.changes.Edit.{Edit}
 use Rattle.item_model.specs.declared.changes.Entry.{Entry}
 use Rattle.share_asks.specs.declared.ask.Want.{Want}
@@ -38,3 +39,7 @@ pub record Keeping (keeps keeps' : List (List Edit) → Type 0) (is_lost' : Bool
   pub kept : (bs : List (List Edit)) → keeps bs → keeps' (bs ++ batches made)
   pub is_lost : is_lost' ≡ loses
   pub counts : MatchBool loses (Rose faults faults') (faults' ≡ faults)
+
+-- The same, by the keeper.
+abbrev pub KeepsEdits : {F R : Type 0} → keeper.Ghosts F R → (old new : F) (k k' : Pass) (loses : Bool) → Type 0
+KeepsEdits g old new k k' loses = Keeping (g.keeps old) (g.keeps new) (g.is_lost new) (g.faults old) (g.faults new) k k' loses

@@ -9,4 +9,5 @@ pub mod Answering
 pub mod Kept
 pub mod Serving
 pub mod Written
+pub mod Progress
 pub mod Steps

@@ -11,7 +11,7 @@ use Rattle.share_replies.specs.Laws.{maker}
 use Rattle.http_front.specs.Readings.{Joins}
 use Rattle.share_server.specs.declared.report.Served.{Served}
 use Rattle.share_server.specs.declared.report.LinkEnd.{LinkEnd}
-use Rattle.share_server.specs.declared.report.LinkEnd.TheVariants.{Closed, Cut, Refused, Spent, Stopped, LinkFault, FileFault, Memory}
+use Rattle.share_server.specs.declared.report.LinkEnd.TheVariants.{FileFault}
 use Rattle.share_server.specs.Served.{AreServed, added_entries}
 use Rattle.share_server.specs.Passes.{Pass, Fresh, Rises}
 
@@ -44,14 +44,8 @@ pub record LosesEdit (role : Role) (bytes : List ℕ) (asks : List Ask) (k k' : 
   pub made : Unacknowledged k k' served batch lost
 
 abbrev pub is_loss : LinkEnd → Bool
-is_loss Closed = false
-is_loss (Cut at) = false
-is_loss (Refused status) = false
-is_loss Spent = false
-is_loss Stopped = false
-is_loss LinkFault = false
 is_loss FileFault = true
-is_loss Memory = false
+is_loss other = false
 
 -- Of a connection that may stay open.
 abbrev pub is_loss_if : Option LinkEnd → Bool

@@ -2,13 +2,13 @@
 -- its error counter increases.
 use Rattle.std.specs.Prelude.{◌≡◌, ℕ, min, List, Bool, true, false, Option, MatchBool}
 use Rattle.std.specs.List.{list_any}
-use Rattle.daap_outside.specs.Counts.{Rose}
+use Rattle.outside_net.specs.Counts.{Rose}
 use Rattle.share_asks.specs.declared.ask.Role.{Role}
 use Rattle.share_asks.specs.declared.ask.Role.TheVariants.{Listen}
 use Rattle.share_history.specs.Sessions.{is_stop}
 use Rattle.share_replies.specs.Laws.{is_edit}
 use Rattle.share_server.specs.declared.report.LinkEnd.{LinkEnd}
-use Rattle.share_server.specs.declared.report.LinkEnd.TheVariants.{Closed, Cut, Refused, Spent, Stopped, LinkFault, FileFault, Memory}
+use Rattle.share_server.specs.declared.report.LinkEnd.TheVariants.{LinkFault}
 use Rattle.share_server.specs.declared.report.LinkReport.{LinkReport}
 use Rattle.share_server.specs.Links.{LinkEnded}
 use Rattle.share_server.specs.Losses.{is_loss}
@@ -31,14 +31,8 @@ pub record LinkServed (role : Role) (budget : ℕ) (k k' : Pass) (left taken tak
   pub unlost : role ≡ Listen → is_loss report.end ≡ false
 
 abbrev pub is_fault : LinkEnd → Bool
-is_fault Closed = false
-is_fault (Cut at) = false
-is_fault (Refused status) = false
-is_fault Spent = false
-is_fault Stopped = false
 is_fault LinkFault = true
-is_fault FileFault = false
-is_fault Memory = false
+is_fault other = false
 
 -- The end is a reported error exactly if the counter increased. Every other end leaves it unchanged.
 abbrev pub CountsEnd : (before now : ℕ) → LinkEnd → Type 0

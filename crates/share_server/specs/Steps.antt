@@ -1,90 +1,74 @@
--- How far a connection has been served: what its handle has seen, what was written, and what was read.
-use Rattle.std.specs.Prelude.{◌≡◌, ◌≢◌, ℕ, ◌-◌, ◌^◌, ◌<◌, min, List, [], ◌∷◌, ◌++◌, length, take, Option, Some, None, Result, Ok, Err}
-use Rattle.std.specs.Io.KnownBytes.{Appends, Consumes}
-use Rattle.item_model.specs.declared.changes.Entry.{Entry}
+-- What a call does to a connection: by its handle and the connection as they were when serving it began, and as they
+-- are after the call.
+use Rattle.std.specs.Prelude.{ℕ, List, Option, Result}
+use Rattle.outside_net.specs.Bounds.{Links}
 use Rattle.share_asks.specs.declared.ask.Ask.{Ask}
 use Rattle.share_asks.specs.declared.ask.Role.{Role}
-use Rattle.http_front.specs.Readers.{HasRead, Reader}
-use Rattle.http_front.specs.Readings.{Joins}
-use Rattle.share_server.specs.declared.report.Served.{Served}
+use Rattle.http_front.specs.Readers.{Reader}
+use Rattle.share_server.specs.declared.link.reading.LinkProgress.{LinkProgress}
 use Rattle.share_server.specs.declared.report.LinkEnd.{LinkEnd}
-use Rattle.share_server.specs.declared.report.LinkEnd.TheVariants.{Closed, Cut, Refused, Spent, Stopped, LinkFault, FileFault, Memory}
-use Rattle.share_server.specs.Replies.{GoOn, replies}
-use Rattle.share_server.specs.Passes.{Pass, Serves}
-use Rattle.share_server.specs.Ends.{EndsInside}
-use Rattle.share_server.specs.Losses.{Loses, ServesBut}
+use Rattle.share_server.specs.declared.report.LinkReport.{LinkReport}
+use Rattle.share_server.specs.declared.report.Served.{Served}
 use Rattle.share_server.specs.Links.{LinkEnded}
+use Rattle.share_server.specs.Passes.{Pass}
+use Rattle.share_server.specs.Progress.{RequestsServed, BytesServed, ReadsServed, ExchangeDone, StepDone, FeedDone, PumpDone}
+use Rattle.share_server.specs.Serving.{LinkServed}
+
+-- A handle and the connection that it serves, at a moment: what the handle has seen, what is left to read, and what was
+-- written.
+pub record ServingSeen : Type 0 where
+  pub pass : Pass
+  pub left : Option (List ℕ)
+  pub taken : Option (List ℕ)
+
+abbrev pub serving_of : {K : Type 0} → Links K → Pass → K → ServingSeen
+serving_of g pass link = record { pass = pass; left = g.left link; taken = g.taken link }
+
+-- The same, with the reader of the requests, and the reports of those that were served.
+pub record ProgressSeen : Type 0 where
+  pub serving : ServingSeen
+  pub reader : Reader
+  pub served : List Served
+
+abbrev pub progress_of : {K : Type 0} → Links K → Pass → K → LinkProgress → ProgressSeen
+progress_of g pass link progress = record { serving = serving_of g pass link; reader = progress.reader; served = progress.served.items }
 
 -- These requests were served, all replies are written, and the connection stays open.
-pub record Goes (limit : ℕ) (k k' : Pass) (taken taken' : Option (List ℕ)) (asks : List Ask) (served : List Served) : Type 0 where
-  pub serves : Serves k k' asks served
-  pub goes_on : GoOn limit k'.seen 1 asks served
-  pub written : Appends taken taken' (replies k.settings limit k'.seen asks served)
-
--- The bytes begin with `asks`, and then `ask`.
-pub record BeginWith (role : Role) (bytes : List ℕ) (asks : List Ask) (ask : Ask) : Type 0 where
-  pub behind : List ℕ
-  pub first : Joins role bytes asks behind
-  pub rest : List ℕ
-  pub all : Joins role bytes (asks ++ ask ∷ []) rest
-
--- The connection ended inside these bytes, at a lost edit if it lost one.
-pub record Ends (role : Role) (bytes : List ℕ) (limit : ℕ) (k k' : Pass) (taken taken' : Option (List ℕ)) (served : List Served) (end : LinkEnd) : Type 0 where
-  pub asks : List Ask
-  pub rest : List ℕ
-  pub joins : Joins role bytes asks rest
-  pub lost : List Entry
-  pub serves : ServesBut k k' asks served lost
-  pub loses : Loses role bytes asks k k' served lost end
-  pub output : List ℕ
-  pub written : Appends taken taken' output
-  pub how : EndsInside role bytes k.settings limit k'.seen asks served rest output end
+abbrev pub AfterRequests : (limit : ℕ) (start now : ServingSeen) → List Ask → List Served → Type 0
+AfterRequests limit start now asks served = RequestsServed limit start.pass now.pass start.taken now.taken asks served
 
 -- One more request was served, or the connection ended at it.
-abbrev pub Exchanges : (limit : ℕ) (k k' : Pass) (taken taken' : Option (List ℕ)) → List Ask → Ask → List Served → Option LinkEnd → Type 0
-Exchanges limit k k' taken taken' asks ask served None = Goes limit k k' taken taken' (asks ++ ask ∷ []) served
-Exchanges limit k k' taken taken' asks ask served (Some end) =
-    (role : Role) (bytes : List ℕ) → BeginWith role bytes asks ask → Ends role bytes limit k k' taken taken' served end
+abbrev pub IsExchange : (limit : ℕ) (start now : ServingSeen) → List Ask → Ask → List Served → Option LinkEnd → Type 0
+IsExchange limit start now asks ask served end = ExchangeDone limit start.pass now.pass start.taken now.taken asks ask served end
 
 -- The reader was fed these bytes and continues, and all its requests were served.
-pub record Midway (role : Role) (bytes : List ℕ) (limit : ℕ) (k k' : Pass) (taken taken' : Option (List ℕ)) (reader : Reader) (served : List Served) : Type 0 where
-  pub role_is : reader.role ≡ role
-  pub idle : reader.ready ≡ None
-  pub fine : reader.error ≡ None
-  pub asks : List Ask
-  pub read : HasRead bytes asks reader
-  pub goes : Goes limit k k' taken taken' asks served
+abbrev pub AfterBytes : Role → (bytes : List ℕ) (limit : ℕ) (start : ServingSeen) (now : ProgressSeen) → Type 0
+AfterBytes role bytes limit start now = BytesServed role bytes limit start.pass now.serving.pass start.taken now.serving.taken now.reader now.served
 
--- `n` more bytes of the chunk were read, or the connection ended in it.
-abbrev pub Steps : Role → (bytes piece : List ℕ) (limit : ℕ) (k k' : Pass) (taken taken' : Option (List ℕ)) → Reader → List Served → Result ℕ LinkEnd → Type 0
-Steps role bytes piece limit k k' taken taken' reader served (Ok n) = Midway role (bytes ++ take n piece) limit k k' taken taken' reader served
-Steps role bytes piece limit k k' taken taken' reader served (Err end) = Ends role (bytes ++ piece) limit k k' taken taken' served end
+-- More bytes of the chunk were read, as many as the result says, or the connection ended in it.
+abbrev pub IsStep : Role → (bytes piece : List ℕ) (limit : ℕ) (start : ServingSeen) (now : ProgressSeen) → Result ℕ LinkEnd → Type 0
+IsStep role bytes piece limit start now result =
+    StepDone role bytes piece limit start.pass now.serving.pass start.taken now.serving.taken now.reader now.served result
 
--- One more chunk was read, or the connection ended in it.
-abbrev pub Feeds : Role → (bytes piece : List ℕ) (limit : ℕ) (k k' : Pass) (taken taken' : Option (List ℕ)) → Reader → List Served → Option LinkEnd → Type 0
-Feeds role bytes piece limit k k' taken taken' reader served None = Midway role (bytes ++ piece) limit k k' taken taken' reader served
-Feeds role bytes piece limit k k' taken taken' reader served (Some end) = Ends role (bytes ++ piece) limit k k' taken taken' served end
+-- The whole chunk was read, or the connection ended in it.
+abbrev pub IsFeed : Role → (bytes piece : List ℕ) (limit : ℕ) (start : ServingSeen) (now : ProgressSeen) → Option LinkEnd → Type 0
+IsFeed role bytes piece limit start now end =
+    FeedDone role bytes piece limit start.pass now.serving.pass start.taken now.serving.taken now.reader now.served end
 
 -- All bytes that were read off the connection were fed, and `consumed` counts them.
-pub record Underway (role : Role) (limit : ℕ) (k k' : Pass) (left left' taken taken' : Option (List ℕ)) (reader : Reader) (served : List Served) (consumed : ℕ) : Type 0 where
-  pub some : 0 < limit
-  pub bytes : List ℕ
-  pub midway : Midway role bytes limit k k' taken taken' reader served
-  pub off : Consumes left left' bytes
-  pub counted : consumed ≡ min (length bytes) (2 ^ 64 - 1)
-
--- The input ended after `consumed` bytes: between two requests, or inside one.
-abbrev pub EndsInput : Reader → (consumed : ℕ) → LinkEnd → Type 0
-EndsInput reader consumed Closed = reader.kept ≡ []
-EndsInput reader consumed (Cut at) = (reader.kept ≢ []) × (at ≡ consumed)
-EndsInput reader consumed (Refused status) = ⊥
-EndsInput reader consumed Spent = ⊥
-EndsInput reader consumed Stopped = ⊥
-EndsInput reader consumed LinkFault = ⊥
-EndsInput reader consumed FileFault = ⊥
-EndsInput reader consumed Memory = ⊥
+abbrev pub AfterReads : Role → (limit : ℕ) (start : ServingSeen) (now : ProgressSeen) (consumed : ℕ) → Type 0
+AfterReads role limit start now consumed =
+    ReadsServed role limit start.pass now.serving.pass start.left now.serving.left start.taken now.serving.taken now.reader now.served consumed
 
 -- The requests of one more read were served, or the connection ended.
-abbrev pub Pumps : Role → (limit : ℕ) (k k' : Pass) (left left' taken taken' : Option (List ℕ)) → Reader → List Served → ℕ → Option LinkEnd → Type 0
-Pumps role limit k k' left left' taken taken' reader served consumed None = Underway role limit k k' left left' taken taken' reader served consumed
-Pumps role limit k k' left left' taken taken' reader served consumed (Some end) = LinkEnded role limit k k' left taken taken' served end
+abbrev pub IsPump : Role → (limit : ℕ) (start : ServingSeen) (now : ProgressSeen) (consumed : ℕ) → Option LinkEnd → Type 0
+IsPump role limit start now consumed end =
+    PumpDone role limit start.pass now.serving.pass start.left now.serving.left start.taken now.serving.taken now.reader now.served consumed end
+
+-- The connection was served to this end, for at most `limit` requests.
+abbrev pub EndsLink : Role → (limit : ℕ) (start now : ServingSeen) → List Served → LinkEnd → Type 0
+EndsLink role limit start now served end = LinkEnded role limit start.pass now.pass start.left start.taken now.taken served end
+
+-- The connection was served to its end, by a worker that may serve `budget` requests more, and so reported.
+abbrev pub ServesLink : Role → (budget : ℕ) (start now : ServingSeen) → LinkReport → Type 0
+ServesLink role budget start now report = LinkServed role budget start.pass now.pass start.left start.taken now.taken report

@@ -134,7 +134,7 @@ reports_send : IsSend (vec_row report_row heap_row heap_ghosts)
 reports_send = std.Vec-send report_row report.the_send
 
 pub worker_send : (D : RattleType) → IsSend D → IsSend (worker_row D)
-worker_send D door = declared_send (worker_type D) (pass_send, (as_row_send (row_field D) door, (role.the_send, (reports_send, (end.the_send, tt)))))
+worker_send D listener = declared_send (worker_type D) (pass_send, (as_row_send (row_field D) listener, (role.the_send, (reports_send, (end.the_send, tt)))))
 
 -- what the threads' work borrows: a runtime, an allocator, the lock and the bell, each for as long as it may
 abbrev pub borrowed : RattleType → (runtime allocator share rings : Lft) → Shape
@@ -171,14 +171,14 @@ lent R D F runtime allocator share rings served kept one two = record {
 
 pub lent_send : (R D F : RattleType) (runtime allocator share rings served kept : Lft) (one two : Lifetime) → IsSync R → IsSend D → IsSend F
     → IsSend (Struct (lent R D F runtime allocator share rings served kept one two))
-lent_send R D F runtime allocator share rings served kept one two sync door keeper =
+lent_send R D F runtime allocator share rings served kept one two sync listener keeper =
     struct_send (lent R D F runtime allocator share rings served kept one two) (
       shr_send (named 0) runtime R sync,
       (
         shr_send (named 0) allocator heap_row std.sync,
         (
           shr_send (named 0) share (lock_row share_row entry_row settings_row ghosts) lock_sync,
-          (shr_send (named 0) rings bell_row bell.the_sync, (mut_send one served (worker_row D) (worker_send D door), (mut_send two kept F keeper, tt))),
+          (shr_send (named 0) rings bell_row bell.the_sync, (mut_send one served (worker_row D) (worker_send D listener), (mut_send two kept F keeper, tt))),
         ),
       ),
     )

@@ -14,8 +14,8 @@ use Rattle.share_replies.specs.Laws.{is_edit, maker}
 use Rattle.share_server.specs.Kept.{IsUnheard, Keeping}
 use Rattle.share_server.specs.Losses.{edit_and_stop}
 use Rattle.share_server.specs.Passes.{Pass}
-use Rattle.share_workers.specs.Keepers.{EditsAreBy, KeepsBut, KeepsHistory}
-use Rattle.share_workers.specs.Works.{Looks}
+use Rattle.share_workers.specs.Keepers.{EditsAreBy, KeepsBut}
+use Rattle.share_workers.specs.Works.{Syncs}
 
 -- ---- a turn that adds nothing
 
@@ -37,15 +37,15 @@ keeping_same keeps is_lost faults k k' going same = record {
 own_stays : (n : ℕ) (seen more h : List Entry) → h ≡ seen ++ more → NoneOf maker (n ∷ []) more → entries_of maker n h ≡ entries_of maker n seen
 own_stays n seen more h grows none = (continues {E = Entry} maker (n ∷ []) seen h more grows none).own n (0, omega arith, refl)
 
-pub keeping_looked : (keeps keeps' : List (List Edit) → Type 0) (is_lost' : Bool) (faults faults' : ℕ) (k j k' : Pass) (loses : Bool)
-    → Keeping keeps keeps' is_lost' faults faults' k j loses → Looks j k' → Keeping keeps keeps' is_lost' faults faults' k k' loses
-keeping_looked keeps keeps' is_lost' faults faults' k j k' loses did looks = record {
-  number = ap (λ (p : Pass). p.number) looks.after ∙ did.number;
+pub keeping_synced : (keeps keeps' : List (List Edit) → Type 0) (is_lost' : Bool) (faults faults' : ℕ) (k j k' : Pass) (loses : Bool)
+    → Keeping keeps keeps' is_lost' faults faults' k j loses → Syncs j k' → Keeping keeps keeps' is_lost' faults faults' k k' loses
+keeping_synced keeps keeps' is_lost' faults faults' k j k' loses did syncs = record {
+  number = ap (λ (p : Pass). p.number) syncs.after ∙ did.number;
   made = did.made;
   lost = did.lost;
   unheard = did.unheard;
   own = subst (λ n. entries_of maker n k'.seen ≡ entries_of maker n j.seen) did.number
-      (own_stays j.number j.seen looks.more k'.seen (ap (λ (p : Pass). p.seen) looks.after) looks.none) ∙ did.own;
+      (own_stays j.number j.seen syncs.more k'.seen (ap (λ (p : Pass). p.seen) syncs.after) syncs.none) ∙ did.own;
   kept = did.kept;
   is_lost = did.is_lost;
   counts = did.counts;
@@ -96,7 +96,9 @@ kept_but keeps' n before made lost true (batch, is) kept = (
   kept,
 )
 
-pub keeps_history : (keeps keeps' : List (List Edit) → Type 0) (is_lost' : Bool) (faults faults' : ℕ) → KeepsHistory keeps keeps' is_lost' faults faults'
+pub keeps_history : (keeps keeps' : List (List Edit) → Type 0) (is_lost' : Bool) (faults faults' : ℕ) (k k' : Pass) (loses : Bool) (h behind later : List Entry)
+    → Keeping keeps keeps' is_lost' faults faults' k k' loses → keeps (batches k.seen) → h ≡ k.seen ++ behind → h ≡ k'.seen ++ later
+    → EditsAreBy k.number behind → NoneOf maker (k.number ∷ []) later → KeepsBut loses keeps' (batches h)
 keeps_history keeps keeps' is_lost' faults faults' k k' loses h behind later did had begins ends are none =
     let own : entries_of maker k.number behind ≡ did.made ++ did.lost = own_behind k.number k.seen k'.seen h behind later (did.made ++ did.lost) begins ends none did.own in
     let all : batches h ≡ batches k.seen ++ batches (did.made ++ did.lost) =

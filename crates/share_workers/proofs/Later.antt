@@ -1,7 +1,7 @@
 -- What the reports of connections claim remains true when the history grows.
 use Rattle.std.proofs.Common.{◌⊎◌, ℕ, List, [], ◌∷◌, ◌++◌, length, ◌+◌, ◌-◌, ◌≡◌, sym, ◌∙◌, subst, inl, inr, append-nil, length-append, None, arith}
 use Rattle.item_model.specs.declared.changes.Entry.{Entry}
-use Rattle.daap_outside.specs.Places.{Returned}
+use Rattle.outside_net.specs.Places.{Returned}
 use Rattle.share_asks.specs.declared.ask.Ask.{Ask}
 use Rattle.share_asks.specs.declared.ask.Role.{Role}
 use Rattle.share_replies.specs.Settings.{Settings}

@@ -3,8 +3,8 @@ use Rattle.std.proofs.Common.{◌≡◌, ◌≢◌, ◌⊎◌, ℕ, ◌+◌, ◌
 use Rattle.std.proofs.lemmas.List.Concat.{flat_map-append}
 use Rattle.std.proofs.lemmas.List.Elements.{Contains-append_left}
 use Rattle.item_model.specs.declared.changes.Entry.{Entry}
-use Rattle.daap_outside.specs.Places.{Accepts, Returned, returned}
-use Rattle.daap_outside.specs.Told.{BeginsEmpty, Grows, GrowsByTold}
+use Rattle.outside_net.specs.Places.{Accepts, Returned, returned}
+use Rattle.outside_net.specs.Told.{BeginsEmpty, Grows, GrowsByTold}
 use Rattle.share_asks.specs.declared.ask.Ask.{Ask}
 use Rattle.share_asks.specs.declared.ask.Role.{Role}
 use Rattle.share_history.specs.Sessions.{is_stopped}
@@ -22,7 +22,7 @@ use Rattle.share_server.proofs.InTurn.{nothing_but, rises_wider, serves_then_but
 use Rattle.share_server.specs.Serving.{limit_of, LinkServed, CountsEnd}
 use Rattle.share_workers.specs.declared.worker.WorkerEnd.{WorkerEnd}
 use Rattle.share_workers.specs.declared.worker.WorkerEnd.TheVariants.{Running, Stopped, Spent, NoMoreLinks, AcceptFault, FileFault, Memory}
-use Rattle.share_workers.specs.Works.{all_served, loses_any, IsLostBy, LinkAt, LinksAt, ServesThenLooks, LooksBehind, Looks, Came, Works}
+use Rattle.share_workers.specs.Works.{all_served, loses_any, IsLostBy, LinkAt, LinksAt, ServesThenSyncs, SyncsAfterLast, Syncs, Came, Works}
 use Rattle.share_workers.specs.Ends.{GoesOnToLast, CountsAccepts, EndsWorker, IsWithin, WorkerServed, is_worker_loss}
 use Rattle.share_workers.specs.Steps.{LinkDone, Underway, GoesOnOrEnds}
 use Rattle.share_workers.proofs.Later.{link_later, links_later}
@@ -35,7 +35,7 @@ pub link_within : (role : Role) (budget : ℕ) (k k' : Pass) (left taken taken' 
 link_within role budget k k' left taken taken' report served =
     let most : length report.served ≤ min budget 65536 = none_beyond_the_limit role (limit_of budget) k k' left taken taken' report.served report.end served.ended in omega arith
 
-pub looked : (k j k' : Pass) (h : List Entry) → j ≡ k → Continues maker (numbers_of k) k.seen h → k' ≡ after_turn j h → Looks k k'
+pub looked : (k j k' : Pass) (h : List Entry) → j ≡ k → Continues maker (numbers_of k) k.seen h → k' ≡ after_turn j h → Syncs k k'
 looked k j k' h same on after = record {
   more = on.more;
   none = λ i d less has. on.later i d less (Contains-append_left (k.number ∷ []) k.taken_in (maker (get_or on.more i d)) has);
@@ -43,16 +43,16 @@ looked k j k' h same on after = record {
 }
 
 pub link_done : (role : Role) (budget : ℕ) (k j k' : Pass) (left taken taken' : Option (List ℕ)) (written written' : Option (List Returned)) (faults faults' : ℕ) (report : LinkReport)
-    → LinkServed role budget k j left taken taken' report → faults ≡ 0 → CountsEnd faults faults' report.end → GrowsByTold written written' (returned taken' faults') → Looks j k'
+    → LinkServed role budget k j left taken taken' report → faults ≡ 0 → CountsEnd faults faults' report.end → GrowsByTold written written' (returned taken' faults') → Syncs j k'
     → LinkDone role budget k k' left taken written written' report
-link_done role budget k j k' left taken taken' written written' faults faults' report served fresh counts given looks = record {
+link_done role budget k j k' left taken taken' written written' faults faults' report served fresh counts given syncs = record {
   before = j;
   taken' = taken';
   faults = faults';
   served = served;
   counted = subst (λ n. CountsEnd n faults' report.end) fresh counts;
   given_back = given;
-  looks = looks;
+  syncs = syncs;
 }
 
 -- ---- lists of connections
@@ -84,14 +84,14 @@ count_more reports report =
     ap length (all_served_more reports report)
     ∙ (length-append (all_served reports) (report.served ++ []) ∙ ap (λ l. length (all_served reports) + length l) (append-nil report.served))
 
-behind : (k k' : Pass) (reports : List LinkReport) (report : LinkReport) (lost : List Entry) → ServesThenLooks k k' (all_served (reports ++ report ∷ [])) lost
-    → LooksBehind k k' (reports ++ report ∷ []) lost
+behind : (k k' : Pass) (reports : List LinkReport) (report : LinkReport) (lost : List Entry) → ServesThenSyncs k k' (all_served (reports ++ report ∷ [])) lost
+    → SyncsAfterLast k k' (reports ++ report ∷ []) lost
 behind k k' [] report lost serves = serves
 behind k k' (r ∷ reports) report lost serves = serves
 
 -- if nothing was lost
-looks_whole : (k k' : Pass) (reports : List LinkReport) (lost : List Entry) → lost ≡ [] → LooksBehind k k' reports lost → LooksBehind k k' reports []
-looks_whole k k' reports lost none looks = subst (λ (l : List Entry). LooksBehind k k' reports l) none looks
+syncs_whole : (k k' : Pass) (reports : List LinkReport) (lost : List Entry) → lost ≡ [] → SyncsAfterLast k k' reports lost → SyncsAfterLast k k' reports []
+syncs_whole k k' reports lost none syncs = subst (λ (l : List Entry). SyncsAfterLast k k' reports l) none syncs
 
 -- what connections lost after others that lost nothing
 lost_by_more : (k j k' : Pass) (asks : List Ask) (earlier served : List Served) (lost : List Entry) (loses : Bool) → Serves k j asks earlier → IsLostBy j k' served loses lost
@@ -121,11 +121,11 @@ module _ {L : Type 0} (left taken : L → Option (List ℕ)) (link : L) (role : 
   number_stays : j.number ≡ k.number
   number_stays = ap (λ (p : Pass). p.number) under.works.serves.stays
 
-  seen_last : k'.seen ≡ done.before.seen ++ done.looks.more
-  seen_last = ap (λ (p : Pass). p.seen) done.looks.after
+  seen_last : k'.seen ≡ done.before.seen ++ done.syncs.more
+  seen_last = ap (λ (p : Pass). p.seen) done.syncs.after
 
-  seen_more : k'.seen ≡ j.seen ++ (ended.serves.fresh.more ++ done.looks.more)
-  seen_more = seen_last ∙ (ap (λ h. h ++ done.looks.more) ended.serves.fresh.grows ∙ append_assoc j.seen ended.serves.fresh.more done.looks.more)
+  seen_more : k'.seen ≡ j.seen ++ (ended.serves.fresh.more ++ done.syncs.more)
+  seen_more = seen_last ∙ (ap (λ h. h ++ done.syncs.more) ended.serves.fresh.grows ∙ append_assoc j.seen ended.serves.fresh.more done.syncs.more)
 
   link_at : LinkAt k.settings k.number (limit_of (262144 - length (all_served reports))) role k'.seen ended.input report (ended.output, nat_lt 0 done.faults)
   link_at =
@@ -134,7 +134,7 @@ module _ {L : Type 0} (left taken : L → Option (List ℕ)) (link : L) (role : 
       (subst (λ n. LinkAt k.settings n (limit_of budget) role k'.seen ended.input report (ended.output, nat_lt 0 done.faults)) number_stays
       (subst (λ s. LinkAt s j.number (limit_of budget) role k'.seen ended.input report (ended.output, nat_lt 0 done.faults)) settings_stay
       (subst (λ h. LinkAt j.settings j.number (limit_of budget) role h ended.input report (ended.output, nat_lt 0 done.faults)) (sym seen_last)
-      (link_later j.settings j.number (limit_of budget) done.before.seen done.looks.more role ended.input report (ended.output, nat_lt 0 done.faults)
+      (link_later j.settings j.number (limit_of budget) done.before.seen done.syncs.more role ended.input report (ended.output, nat_lt 0 done.faults)
       (record {
         at_once = ended.at_once;
         number = done.served.number;
@@ -152,7 +152,7 @@ module _ {L : Type 0} (left taken : L → Option (List ℕ)) (link : L) (role : 
   links =
       links_more k.settings k.number role 262144 k'.seen under.works.inputs reports under.works.returns ended.input report (ended.output, nat_lt 0 done.faults)
       (subst (λ h. LinksAt k.settings k.number role 262144 h under.works.inputs reports under.works.returns) (sym seen_more)
-      (links_later k.settings k.number role 262144 j.seen (ended.serves.fresh.more ++ done.looks.more) under.works.inputs reports under.works.returns under.works.links))
+      (links_later k.settings k.number role 262144 j.seen (ended.serves.fresh.more ++ done.syncs.more) under.works.inputs reports under.works.returns under.works.links))
       link_at
 
   -- nothing was lost before
@@ -166,7 +166,7 @@ module _ {L : Type 0} (left taken : L → Option (List ℕ)) (link : L) (role : 
   all_of = all_served_more reports report ∙ ap (λ l. all_served reports ++ l) (append-nil report.served)
 
   quiet : Serves done.before k' [] []
-  quiet = subst (λ p. Serves done.before p [] []) (sym done.looks.after) (quiet_turns_serve_nothing done.before done.looks.more done.looks.none)
+  quiet = subst (λ p. Serves done.before p [] []) (sym done.syncs.after) (quiet_turns_serve_nothing done.before done.syncs.more done.syncs.none)
 
   looked_on : ServesBut j k' ended.asks report.served ended.lost
   looked_on = but_then_quiet j done.before k' ended.asks report.served ended.lost ended.serves quiet
@@ -175,17 +175,17 @@ module _ {L : Type 0} (left taken : L → Option (List ℕ)) (link : L) (role : 
   serves = subst (λ l. ServesBut k k' (under.works.asks ++ ended.asks) l ended.lost) (sym all_of)
       (serves_then_but k j k' under.works.asks ended.asks (all_served reports) report.served ended.lost served_before looked_on)
 
-  looks : LooksBehind k k' (reports ++ report ∷ []) ended.lost
-  looks = behind k k' reports report ended.lost record {
+  syncs : SyncsAfterLast k k' (reports ++ report ∷ []) ended.lost
+  syncs = behind k k' reports report ended.lost record {
     asks = under.works.asks ++ ended.asks;
     before = done.before;
     serves = subst (λ l. ServesBut k done.before (under.works.asks ++ ended.asks) l ended.lost) (sym all_of)
         (serves_then_but k j done.before under.works.asks ended.asks (all_served reports) report.served ended.lost served_before ended.serves);
-    looks = done.looks;
+    syncs = done.syncs;
   }
 
   last_loses : IsLostBy j k' report.served (is_loss report.end) ended.lost
-  last_loses = link_loses role ended.input ended.asks j done.before k' report.served ended.lost done.looks.more (is_loss report.end) ended.loses seen_last
+  last_loses = link_loses role ended.input ended.asks j done.before k' report.served ended.lost done.syncs.more (is_loss report.end) ended.loses seen_last
 
   loses : IsLostBy k k' (all_served (reports ++ report ∷ [])) (loses_any (reports ++ report ∷ [])) ended.lost
   loses = subst (λ b. IsLostBy k k' (all_served (reports ++ report ∷ [])) b ended.lost) (sym (loses_more reports report under.may.whole))
@@ -198,10 +198,10 @@ module _ {L : Type 0} (left taken : L → Option (List ℕ)) (link : L) (role : 
     last = report;
     are = refl;
     before = j;
-    looks = looks_whole k j reports under.works.lost none_before under.works.looks;
+    syncs = syncs_whole k j reports under.works.lost none_before under.works.syncs;
     may = under.may;
     lost = ended.lost;
-    serves = record { asks = ended.asks; before = done.before; serves = ended.serves; looks = done.looks };
+    serves = record { asks = ended.asks; before = done.before; serves = ended.serves; syncs = done.syncs };
     loses = last_loses;
   }
 
@@ -230,7 +230,7 @@ module _ {L : Type 0} (left taken : L → Option (List ℕ)) (link : L) (role : 
       lost = ended.lost;
       serves = serves;
       loses = loses;
-      looks = looks;
+      syncs = syncs;
     };
     loses = loses_more reports report under.may.whole ∙ is_lost;
     to_last = to_last;
@@ -310,7 +310,7 @@ module _ (role : Role) (k j : Pass) (coming before now : Option (List (List ℕ)
           lost = under.works.lost;
           serves = under.works.serves;
           loses = under.works.loses;
-          looks = under.works.looks;
+          syncs = under.works.syncs;
         },
         (under.may, over.0),
         may_within,
@@ -347,7 +347,7 @@ begins_work role k coming written = record {
     lost = [];
     serves = serves_nothing k;
     loses = refl;
-    looks = refl;
+    syncs = refl;
   };
   may = record { links = omega arith; requests = omega arith; going = λ some. absurd (some refl); whole = refl };
   left = omega arith;

@@ -2,9 +2,9 @@
 use Rattle.std.proofs.Common.{◌≡◌, ℕ, ◌+◌, ◌-◌, ◌≤◌, ◌^◌, min, List, [], ◌∷◌, ◌++◌, sym, ap, ◌∙◌, subst, Bool, true, false, nat_lt, Option, Some, None, MatchBool, IfSome, append_assoc, arith}
 use Rattle.std.proofs.lemmas.Bool.{lt-ltb}
 use Rattle.std.specs.Io.KnownBytes.{Appends}
-use Rattle.daap_outside.specs.Counts.{Rose}
-use Rattle.daap_outside.specs.Places.{Accepts, Returned, returned}
-use Rattle.daap_outside.specs.Told.{BeginsEmpty, Grows, GrowsByTold}
+use Rattle.outside_net.specs.Counts.{Rose}
+use Rattle.outside_net.specs.Places.{Accepts, Returned, returned}
+use Rattle.outside_net.specs.Told.{BeginsEmpty, Grows, GrowsByTold}
 use Rattle.share_server.specs.declared.report.LinkEnd.{LinkEnd}
 use Rattle.share_server.specs.Serving.{is_fault, CountsEnd}
 use Rattle.share_workers.specs.Works.{Came, IsOver}

@@ -2,8 +2,8 @@
 -- failures.
 use Rattle.std.specs.Prelude.{◌≡◌, ◌≢◌, ◌⊎◌, ℕ, ◌<◌, ◌≤◌, List, [], ◌∷◌, ◌++◌, length, Bool, true, false, Option}
 use Rattle.item_model.specs.declared.changes.Entry.{Entry}
-use Rattle.daap_outside.specs.Counts.{Rose}
-use Rattle.daap_outside.specs.Places.{Returned}
+use Rattle.outside_net.specs.Counts.{Rose}
+use Rattle.outside_net.specs.Places.{Returned}
 use Rattle.share_asks.specs.declared.ask.Role.{Role}
 use Rattle.share_history.specs.Sessions.{is_stopped}
 use Rattle.share_server.specs.declared.report.LinkReport.{LinkReport}
@@ -11,7 +11,7 @@ use Rattle.share_server.specs.Losses.{is_loss}
 use Rattle.share_server.specs.Passes.{Pass}
 use Rattle.share_workers.specs.declared.worker.WorkerEnd.{WorkerEnd}
 use Rattle.share_workers.specs.declared.worker.WorkerEnd.TheVariants.{Running, Stopped, NoMoreLinks, Spent, AcceptFault, FileFault, Memory}
-use Rattle.share_workers.specs.Works.{all_served, loses_any, IsLostBy, IsOver, ServesThenLooks, LooksBehind, Works}
+use Rattle.share_workers.specs.Works.{all_served, loses_any, IsLostBy, IsOver, ServesThenSyncs, SyncsAfterLast, Works}
 
 -- a worker may continue after these connections: it may serve one more connection and one more request, saw no stop
 -- after the last, and lost no edit
@@ -27,10 +27,10 @@ pub record GoesOnToLast (k k' : Pass) (reports : List LinkReport) : Type 0 where
   pub last : LinkReport
   pub are : reports ≡ earlier ++ last ∷ []
   pub before : Pass
-  pub looks : LooksBehind k before earlier []
+  pub syncs : SyncsAfterLast k before earlier []
   pub may : MayGoOn before earlier
   pub lost : List Entry
-  pub serves : ServesThenLooks before k' last.served lost
+  pub serves : ServesThenSyncs before k' last.served lost
   pub loses : IsLostBy before k' last.served (is_loss last.end) lost
 
 abbrev pub EndsWorker : Pass → Pass → Option (List (List ℕ)) → Option (List (List ℕ)) → List LinkReport → WorkerEnd → Type 0
@@ -48,23 +48,13 @@ EndsWorker k k' coming coming' reports Memory = MayGoOn k' reports
 
 -- whether it ended because an edit could not be kept
 abbrev pub is_worker_loss : WorkerEnd → Bool
-is_worker_loss Running = false
-is_worker_loss Stopped = false
-is_worker_loss NoMoreLinks = false
-is_worker_loss Spent = false
-is_worker_loss AcceptFault = false
 is_worker_loss FileFault = true
-is_worker_loss Memory = false
+is_worker_loss other = false
 
 -- the listener's error counter, by the worker's end
 abbrev pub CountsAccepts : ℕ → ℕ → WorkerEnd → Type 0
 CountsAccepts before now AcceptFault = Rose before now
-CountsAccepts before now Running = now ≡ before
-CountsAccepts before now Stopped = now ≡ before
-CountsAccepts before now NoMoreLinks = now ≡ before
-CountsAccepts before now Spent = now ≡ before
-CountsAccepts before now FileFault = now ≡ before
-CountsAccepts before now Memory = now ≡ before
+CountsAccepts before now other = now ≡ before
 
 -- the maxima of a worker
 abbrev pub IsWithin : List LinkReport → Type 0

@@ -1,13 +1,13 @@
 -- One more connection of a worker that has not ended.
 use Rattle.std.specs.Prelude.{◌≡◌, ℕ, ◌+◌, List, length, Bool, false, Option, Some, None}
-use Rattle.daap_outside.specs.Places.{Returned, returned}
-use Rattle.daap_outside.specs.Told.{GrowsByTold}
+use Rattle.outside_net.specs.Places.{Returned, returned}
+use Rattle.outside_net.specs.Told.{GrowsByTold}
 use Rattle.share_asks.specs.declared.ask.Role.{Role}
 use Rattle.share_server.specs.declared.report.LinkReport.{LinkReport}
 use Rattle.share_server.specs.Passes.{Pass}
 use Rattle.share_server.specs.Serving.{LinkServed, CountsEnd}
 use Rattle.share_workers.specs.declared.worker.WorkerEnd.{WorkerEnd}
-use Rattle.share_workers.specs.Works.{all_served, Looks, Works}
+use Rattle.share_workers.specs.Works.{all_served, Syncs, Works}
 use Rattle.share_workers.specs.Ends.{MayGoOn, EndsWorker, IsWithin, is_worker_loss}
 
 -- a connection with no error counted was served and returned to the listener, and then a turn was taken
@@ -18,7 +18,7 @@ pub record LinkDone (role : Role) (budget : ℕ) (k k' : Pass) (left taken : Opt
   pub served : LinkServed role budget k before left taken taken' report
   pub counted : CountsEnd 0 faults report.end
   pub given_back : GrowsByTold written written' (returned taken' faults)
-  pub looks : Looks before k'
+  pub syncs : Syncs before k'
 
 -- the worker has not ended, and this is what is left of its budget
 pub record Underway (role : Role) (k k' : Pass) (coming coming' : Option (List (List ℕ))) (written written' : Option (List Returned)) (reports : List LinkReport) (budget : ℕ) : Type 0 where

@@ -3,8 +3,8 @@ use Rattle.std.specs.Prelude.{◌≡◌, ◌⊎◌, ℕ, ◌-◌, List, [], ◌�
 use Rattle.std.specs.List.{flat_map, list_any}
 use Rattle.item_model.specs.declared.changes.Edit.{Edit}
 use Rattle.item_model.specs.declared.changes.Entry.{Entry}
-use Rattle.daap_outside.specs.Places.{Returned}
-use Rattle.daap_outside.specs.Told.{Grows}
+use Rattle.outside_net.specs.Places.{Returned}
+use Rattle.outside_net.specs.Told.{Grows}
 use Rattle.share_asks.specs.declared.ask.Ask.{Ask}
 use Rattle.share_asks.specs.declared.ask.Role.{Role}
 use Rattle.share_asks.specs.declared.ask.Role.TheVariants.{Listen}
@@ -75,22 +75,22 @@ IsOver None now = ⊤
 IsOver (Some before) now = now ≡ Some []
 
 -- a turn of a lock handle that added no entry of its own
-pub record Looks (k k' : Pass) : Type 0 where
+pub record Syncs (k k' : Pass) : Type 0 where
   pub more : List Entry
   pub none : NoneOf maker (k.number ∷ []) more
   pub after : k' ≡ after_turn k (k.seen ++ more)
 
 -- requests were served, but no reply acknowledges these entries, and then such a turn was taken
-pub record ServesThenLooks (k k' : Pass) (served : List Served) (lost : List Entry) : Type 0 where
+pub record ServesThenSyncs (k k' : Pass) (served : List Served) (lost : List Entry) : Type 0 where
   pub asks : List Ask
   pub before : Pass
   pub serves : ServesBut k before asks served lost
-  pub looks : Looks before k'
+  pub syncs : Syncs before k'
 
 -- the lock handle after these connections: it took such a turn after the last
-abbrev pub LooksBehind : Pass → Pass → List LinkReport → List Entry → Type 0
-LooksBehind k k' [] lost = k' ≡ k
-LooksBehind k k' (report ∷ reports) lost = ServesThenLooks k k' (all_served (report ∷ reports)) lost
+abbrev pub SyncsAfterLast : Pass → Pass → List LinkReport → List Entry → Type 0
+SyncsAfterLast k k' [] lost = k' ≡ k
+SyncsAfterLast k k' (report ∷ reports) lost = ServesThenSyncs k k' (all_served (report ∷ reports)) lost
 
 -- what a worker did: the connections that it accepted, the bytes written on them, and what its lock handle has seen
 pub record Works (role : Role) (k k' : Pass) (coming coming' : Option (List (List ℕ))) (written written' : Option (List Returned)) (reports : List LinkReport) : Type 0 where
@@ -103,4 +103,4 @@ pub record Works (role : Role) (k k' : Pass) (coming coming' : Option (List (Lis
   pub lost : List Entry
   pub serves : ServesBut k k' asks (all_served reports) lost
   pub loses : IsLostBy k k' (all_served reports) (loses_any reports) lost
-  pub looks : LooksBehind k k' reports lost
+  pub syncs : SyncsAfterLast k k' reports lost

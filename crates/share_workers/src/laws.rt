@@ -6,5 +6,5 @@ use edit_keeping::Keeps;
 
 /// If only one worker edits a share, its keeper has the batches of the history, but for the last if that was lost.
 pub fn keepers_keep_the_history<F: Keeps>()
-    ensures { (before after : F) → KeepsHistory (F.keeps before) (F.keeps after) (F.is_lost after) (F.faults before) (F.faults after) }
+    ensures { (before after : F) → KeepsHistory F.Keeps before after }
 {}

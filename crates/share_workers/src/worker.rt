@@ -28,7 +28,7 @@ pub enum WorkerEnd {
 #[derive(Drop)]
 pub struct Worker<D> {
     pub pass: Pass<Share>,
-    pub door: D,
+    pub listener: D,
     /// Which requests are allowed on each of its connections.
     pub role: Role,
     /// The reports of its connections, in the order in which these came.

@@ -122,13 +122,13 @@ impl Reader {
             return Ok(());
         }
         if c == ')' {
-            return self.shut();
+            return self.close_listener();
         }
         Err(Refusal::Byte)
     }
 
     // Closes a parenthesis.
-    fn shut(&mut self) -> Result<(), Refusal>
+    fn close_listener(&mut self) -> Result<(), Refusal>
         ensures { Stepped (shut self.old.level self.old.outer) (state_of self.new) result }
     {
         let Some(around) = self.outer.pop() else {

@@ -12,9 +12,9 @@ use Rattle.dmap_show.specs.Readable.{Shows}
 use Rattle.dmap_show.specs.TextLines.{Explains}
 use Rattle.dmap_show.specs.declared.reading.ShowError.{ShowError}
 use Rattle.dmap_show.specs.declared.reading.ShowError.TheVariants as show
-use Rattle.daap_outside.specs.Reading.{ConsumesUpTo, CountsReadFaults}
-use Rattle.daap_outside.specs.declared.reading.ReadError.{ReadError}
-use Rattle.daap_outside.specs.declared.reading.ReadError.TheVariants as reads
+use Rattle.outside_net.specs.Reading.{ConsumesUpTo, CountsReadFaults}
+use Rattle.outside_net.specs.declared.reading.ReadError.{ReadError}
+use Rattle.outside_net.specs.declared.reading.ReadError.TheVariants as reads
 use Rattle.command_core.specs.declared.fault.Fault.{Fault}
 use Rattle.command_core.specs.declared.fault.Fault.TheVariants as fault
 use Rattle.command_core.specs.Seen.{InputSeen}

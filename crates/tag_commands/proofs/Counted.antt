@@ -4,7 +4,7 @@ use Rattle.std.specs.Io.KnownBytes.{Consumes, IsAtEnd}
 use Rattle.std.proofs.lemmas.List.{append-nil, take-append-le, take_at}
 use Rattle.std.proofs.Math.Seq.{take-append-add}
 use Rattle.code_table.specs.Standard.{standard_rows}
-use Rattle.daap_outside.specs.Counts.{Rose}
+use Rattle.outside_net.specs.Counts.{Rose}
 use Rattle.dmap_stream.specs.declared.event.Event.{Event}
 use Rattle.dmap_stream.specs.declared.refusal.StreamError.{StreamError}
 use Rattle.dmap_stream.specs.declared.refusal.StreamError.TheVariants as stream

@@ -1,14 +1,14 @@
 -- How reading and writing keep step in `show`.
-use Rattle.std.proofs.Common.{◌≡◌, ◌≤◌, ◌⊎◌, ℕ, List, [], ◌++◌, length, take, Option, refl, sym, ap, ◌∙◌, subst, inl, inr, arith, append_assoc}
+use Rattle.std.proofs.Common.{◌≡◌, ◌≤◌, ◌⊎◌, ℕ, List, [], ◌++◌, length, take, Option, None, refl, sym, ap, ◌∙◌, subst, inl, inr, arith, append_assoc}
 use Rattle.std.specs.Io.KnownBytes.{Appends, Consumes}
 use Rattle.std.proofs.KnownBytes.{Appends-nil, Appends-trans, Consumes-nil, Consumes-trans}
 use Rattle.std.proofs.lemmas.List.{append-nil, length-take}
 use Rattle.command_core.specs.declared.fault.Fault.{Fault}
 use Rattle.command_core.specs.declared.outcome.Outcome.{Outcome}
-use Rattle.command_core.specs.Answers.{Tells, TellsFault}
+use Rattle.command_core.specs.Answers.{Tells, TellsFault, TellsMemory}
 use Rattle.command_core.specs.Causes.{piece_limit}
 use Rattle.command_core.specs.Faults.{fault_line, fault_status, memory_line}
-use Rattle.command_core.specs.Seen.{InputSeen, OutputSeen}
+use Rattle.command_core.specs.Seen.{InputSeen, OutputSeen, Seen, Told}
 use Rattle.tag_commands.specs.declared.show.Stop.{Stop}
 use Rattle.tag_commands.specs.declared.show.Stop.TheVariants.{Input, Output}
 use Rattle.tag_commands.specs.Show.{IsInStep, shown_text}
@@ -98,3 +98,10 @@ step_fault {F} line status fault before after output_before mid output_after out
         → IsInStep before after output_before output_after
     by_line (inl own) = step_told before after output_before mid output_after (fault_status status fault) (fault_line line fault) outcome.status h own
     by_line (inr want) = step_told before after output_before mid output_after 9 memory_line outcome.status h want
+
+-- an allocation failed before anything was read
+pub step_idle : (told : Told) (outcome : Outcome) → told.after ≡ told.before → TellsMemory None told.output_before told.output_after outcome
+    → IsInStep told.before.input told.after.input told.output_before told.output_after
+step_idle told outcome same t =
+    subst (λ (s : Seen). IsInStep told.before.input s.input told.output_before told.output_after) (sym same)
+    (step_told told.before.input told.before.input told.output_before told.output_before told.output_after 9 memory_line outcome.status (step_none told.before.input told.output_before) t.told)

@@ -4,7 +4,7 @@ use Rattle.std.specs.Io.KnownBytes.{Consumes, IsAtEnd}
 use Rattle.std.proofs.Math.Seq.{take-append_seam}
 use Rattle.std.proofs.lemmas.List.{take-append-drop, length-take, length-drop, take-append-le}
 use Rattle.std.proofs.lemmas.Bool.{and_parts, and_from, le-leb, leb-true, cases_lt}
-use Rattle.daap_outside.specs.Counts.{Rose}
+use Rattle.outside_net.specs.Counts.{Rose}
 use Rattle.dmap_tags.specs.Spelling.{payload, spelling}
 use Rattle.dmap_tags.specs.Codes.{code_of}
 use Rattle.dmap_tags.specs.Tree.{Tree}

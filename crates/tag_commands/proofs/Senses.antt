@@ -15,7 +15,7 @@ use Rattle.command_core.specs.declared.fault.Fault.{Fault}
 use Rattle.command_core.specs.declared.fault.Fault.TheVariants.{Own, Read, Memory}
 use Rattle.command_core.specs.Seen.{Seen, ShareSeen, IsUnread}
 use Rattle.command_core.specs.Causes.{Says}
-use Rattle.command_core.specs.Meanings.{Meaning, IsCause, leaves_no_share, may_read, writes_nothing_before}
+use Rattle.command_core.specs.Meanings.{Meaning, IsCause, leaves_no_share, may_read, says_no_more, writes_nothing_before}
 use Rattle.command_core.proofs.Reading.{read_whole}
 use Rattle.command_core.proofs.Sensible.{IsSensible, WritesOnce}
 use Rattle.tag_commands.specs.declared.tags_fault.TagsFault.{TagsFault}
@@ -30,13 +30,14 @@ use Rattle.tag_commands.specs.Show.{show_meaning}
 use Rattle.tag_commands.specs.ShowBack.{ShowsBack, StopsOn, text_status, text_cause, show_back_meaning}
 use Rattle.tag_commands.specs.Codes.{codes_meaning}
 use Rattle.tag_commands.specs.LearnCodes.{IsReply, TellsNone, IsReplyRefused, learn_cause, learn_meaning}
+use Rattle.tag_commands.proofs.InStep.{step_idle}
 use Rattle.tag_commands.proofs.Showing.{show_nothing}
 use Rattle.tag_commands.proofs.Tagged.{tags_walked}
 
 -- ---- commands that read their input, write once, at its end, and open no share
 
 abbrev pub reading : Meaning → Meaning
-reading m = record m { is_begun = m.is_done; is_front = writes_nothing_before; leaves = leaves_no_share; may_want = may_read }
+reading m = record m { is_begun = m.is_done; is_front = writes_nothing_before; leaves = leaves_no_share; may_want = may_read; always = says_no_more }
 
 pub reads_once : (m : Meaning) → ((input : List ℕ) (one other : m.fault) → Says (m.cause one) input → Says (m.cause other) input → m.status one ≡ m.status other)
     → ((input : List ℕ) (own : m.fault) → Says (m.cause own) input → m.gives input → ⊥)
@@ -50,6 +51,7 @@ reads_once m one_status not_both given = record {
     idle = λ seen. tt;
     idle_front = λ seen. refl;
     idle_share = λ seen. refl;
+    idle_always = λ told outcome same t. tt;
     one_status = one_status;
     not_both = not_both;
     given = given;
@@ -57,6 +59,7 @@ reads_once m one_status not_both given = record {
   begun = λ before after share output done. done;
   front = λ before after fault. refl;
   unopened = λ before after fault. refl;
+  always = λ told outcome. tt;
 }
 
 -- ---- check and show
@@ -99,6 +102,7 @@ show_sense = record {
   idle = λ seen. tt;
   idle_front = λ seen. show_nothing seen.input;
   idle_share = λ seen. refl;
+  idle_always = step_idle;
   one_status = one_tags_status;
   not_both = no_tags_fault;
   given = λ input before after share output told done.
@@ -144,6 +148,7 @@ codes_sense = record {
     idle = λ seen. record { left = refl; faults = refl };
     idle_front = λ seen. refl;
     idle_share = λ seen. refl;
+    idle_always = λ told outcome same t. tt;
     one_status = λ input one other says said. absurd one;
     not_both = λ input own says gives. absurd own;
     given = λ input before after share output told done. tt;
@@ -151,6 +156,7 @@ codes_sense = record {
   begun = λ before after share output done. done;
   front = λ before after fault. refl;
   unopened = λ before after fault. refl;
+  always = λ told outcome. tt;
 }
 
 -- ---- codes --learn

@@ -1,11 +1,11 @@
 -- The command `codes`: the rows of the standard table of content codes, a line each.
-use Rattle.std.specs.Prelude.{◌≡◌, ◌∷◌, ◌++◌, [], ℕ, List, flat_map, decimal, true}
+use Rattle.std.specs.Prelude.{◌≡◌, ◌∷◌, ◌++◌, [], ℕ, List, flat_map, decimal}
 use Rattle.code_table.specs.declared.row.CodeRow.{CodeRow}
 use Rattle.code_table.specs.Reply.{type_of}
 use Rattle.code_table.specs.Standard.{standard_rows}
 use Rattle.dmap_show.specs.Shown.{shown_code}
 use Rattle.command_core.specs.Seen.{InputSeen, ShareSeen, no_share, IsUnread}
-use Rattle.command_core.specs.Meanings.{Meaning, writes_nothing_before, leaves_no_share, may_not_read}
+use Rattle.command_core.specs.Meanings.{Meaning, writes_nothing_before, leaves_no_share, may_not_read, says_no_more}
 
 -- the code as shown text has it, the number of the kind, and the name
 abbrev pub code_line : CodeRow → List ℕ
@@ -34,6 +34,5 @@ codes_meaning = record {
   is_front = writes_nothing_before;
   leaves = leaves_no_share;
   may_want = may_not_read;
-  leaves_files = true;
-  leaves_net = true;
+  always = says_no_more;
 }

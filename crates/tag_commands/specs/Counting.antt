@@ -42,9 +42,13 @@ pub record HasCounted (fed : List ℕ) (reader : Reader) (tops : Tops) : Type 0 
   pub limit : reader.limit ≡ tag_limit
   pub counted : tops ≡ fold after_event no_tops handed
 
--- the same of a counter, in which no event is left
+-- the counter's reader was fed these bytes, and the counter has counted all events that it returned
+abbrev pub HasCountedEvents : List ℕ → Counter → Type 0
+HasCountedEvents fed counter = HasCounted fed counter.reader counter.tops
+
+-- .. and no event is left in it
 pub record IsCounted (fed : List ℕ) (counter : Counter) : Type 0 where
-  pub counted : HasCounted fed counter.reader counter.tops
+  pub counted : HasCountedEvents fed counter
   pub quiet : ready counter.reader ≡ []
   pub bytes : counter.bytes ≡ length fed
   pub small : AreBytes fed

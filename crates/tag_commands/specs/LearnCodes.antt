@@ -16,7 +16,7 @@ use Rattle.command_core.specs.declared.fault.Fault.{Fault}
 use Rattle.command_core.specs.declared.fault.Fault.TheVariants as fault
 use Rattle.command_core.specs.Seen.{InputSeen, ShareSeen, no_share}
 use Rattle.command_core.specs.Causes.{Cause, OfInput, StopsBy}
-use Rattle.command_core.specs.Meanings.{Meaning, writes_nothing_before, leaves_no_share, may_read}
+use Rattle.command_core.specs.Meanings.{Meaning, writes_nothing_before, leaves_no_share, may_read, says_no_more}
 use Rattle.tag_commands.specs.declared.learn.LearnFault.{LearnFault}
 use Rattle.tag_commands.specs.declared.learn.LearnFault.TheVariants.{Broken, Table}
 use Rattle.tag_commands.specs.TopTags.{tag_limit, HasNoFault, walked, tags_text}
@@ -105,8 +105,7 @@ learn_meaning = record {
   is_front = writes_nothing_before;
   leaves = leaves_no_share;
   may_want = may_read;
-  leaves_files = true;
-  leaves_net = true;
+  always = says_no_more;
 }
 
 -- reading stops so; an allocation may fail at any time

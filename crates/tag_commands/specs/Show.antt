@@ -68,10 +68,11 @@ pub record IsInStep (before after : InputSeen) (output_before output_after : Out
   pub taken : Appends output_before.taken output_after.taken (shown_text front ++ more)
   pub steady : (last ≡ []) ⊎ (after.faults ≡ before.faults)
 
--- its errors and statuses are those of `check`
+-- its errors and statuses are those of `check`; reading and writing keep step in every run
 abbrev pub show_meaning : Meaning
 show_meaning = record check_meaning {
   is_done = λ before after share output. IsShownWhole before.input after.input share output;
   is_begun = λ before after share output. IsShownCut before.input after.input share output;
   is_front = λ before after fault front. IsShownBefore before.input after.input fault front;
+  always = λ told outcome. IsInStep told.before.input told.after.input told.output_before told.output_after;
 }

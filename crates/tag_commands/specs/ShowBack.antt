@@ -14,7 +14,7 @@ use Rattle.command_core.specs.declared.fault.Fault.{Fault}
 use Rattle.command_core.specs.declared.fault.Fault.TheVariants as fault
 use Rattle.command_core.specs.Seen.{InputSeen, ShareSeen, no_share}
 use Rattle.command_core.specs.Causes.{Cause, OfInput, StopsBy}
-use Rattle.command_core.specs.Meanings.{Meaning, writes_nothing_before, leaves_no_share, may_read}
+use Rattle.command_core.specs.Meanings.{Meaning, writes_nothing_before, leaves_no_share, may_read, says_no_more}
 use Rattle.tag_commands.specs.declared.show_back.TextFault.{TextFault}
 use Rattle.tag_commands.specs.declared.show_back.TextFault.TheVariants.{Line, TooLong}
 
@@ -83,8 +83,7 @@ show_back_meaning = record {
   is_front = writes_nothing_before;
   leaves = leaves_no_share;
   may_want = may_read;
-  leaves_files = true;
-  leaves_net = true;
+  always = says_no_more;
 }
 
 -- reading stops so; an allocation may fail at any time

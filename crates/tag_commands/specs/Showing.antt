@@ -31,9 +31,13 @@ pub record HasShown (fed written : List ℕ) (reader : Reader) (tops : Tops) (li
   pub counted : tops ≡ fold after_event no_tops handed
   pub shown : written ++ lines ≡ shown_events 0 handed
 
--- the same of a shower, in which no event is left
+-- the shower's reader was fed these bytes, and the lines of all events that it returned are those written and its own
+abbrev pub HasShownEvents : (fed written : List ℕ) → Shower → Type 0
+HasShownEvents fed written shower = HasShown fed written shower.counter.reader shower.counter.tops shower.lines.items
+
+-- .. and no event is left in it
 pub record IsShowing (fed written : List ℕ) (shower : Shower) : Type 0 where
-  pub shown : HasShown fed written shower.counter.reader shower.counter.tops shower.lines.items
+  pub shown : HasShownEvents fed written shower
   pub going : shower.counter.reader.error ≡ None
   pub quiet : ready shower.counter.reader ≡ []
   pub bytes : shower.counter.bytes ≡ length fed

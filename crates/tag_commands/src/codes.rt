@@ -2,23 +2,23 @@
 
 ghost use Rattle.std.specs.Prelude.{◌≡◌, ◌++◌, IfOk, OnOk};
 ghost use Rattle.code_table.specs.Standard.{standard_rows};
-ghost use Rattle.command_core.specs.Seen.{Around, InputSeen, output_seen, told_beside};
+ghost use Rattle.command_core.specs.Seen.{Around, InputSeen, output_of, told_beside};
 ghost use Rattle.command_core.specs.Endings.{IsAnswered};
 ghost use Rattle.tag_commands.specs.Codes.{code_line, code_lines, codes_meaning};
 
 use code_table::{CodeRow, CodeTable};
 use command_core::{Outcome, out_of_memory, write_output};
-use daap_outside::Sink;
 use dmap_show::show_code;
 use fault_lines::push_number;
+use outside_net::Sink;
 use std::alloc::{AllocError, Global};
 
 /// Runs `codes`: writes the lines of the standard table. It reads nothing.
 pub fn list_codes<W: Sink>(alloc: Global, output: &mut W) -> Outcome
     ensures { (around : Around) (input : InputSeen) → IsAnswered codes_meaning
         (told_beside around input input
-        (output_seen (W.taken output.old) (W.faults output.old))
-        (output_seen (W.taken output.new) (W.faults output.new)))
+        (output_of W.Sink output.old)
+        (output_of W.Sink output.new))
         result }
 {
     match standard_lines(alloc) {

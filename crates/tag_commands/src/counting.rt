@@ -3,7 +3,7 @@
 ghost use Rattle.std.specs.Prelude.{◌≡◌, ◌+◌, ◌<◌, ◌≤◌, ◌^◌, ◌++◌, [], ℕ, List, length, take, true, IfOk, IfErr};
 ghost use Rattle.dmap_stream.specs.Reader.{ready};
 ghost use Rattle.tag_commands.specs.TopTags.{tags_limit};
-ghost use Rattle.tag_commands.specs.Counting.{HasCounted, IsCounted, IsShown, StopsAt, EndsCounted};
+ghost use Rattle.tag_commands.specs.Counting.{HasCountedEvents, IsCounted, IsShown, StopsAt, EndsCounted};
 
 use crate::tags_fault::{TagsFault, tags_fault};
 use crate::tops::Tops;
@@ -46,7 +46,8 @@ impl Counter {
     pub fn take(&mut self, piece: &[u8]) -> Result<(), Fault<TagsFault>>
         requires { (fed : List ℕ) × IsCounted fed self.old × (length fed ≤ tags_limit) }
         ensures took { (fed : List ℕ) → IsCounted fed self.old
-            → IfOk result (λ _. IsCounted (fed ++ piece.now) self.new × (length (fed ++ piece.now) ≤ tags_limit)) }
+            → IfOk result (λ _. IsCounted (fed ++ piece.now) self.new
+            × (length (fed ++ piece.now) ≤ tags_limit)) }
         ensures stopped { (fed : List ℕ) → IsCounted fed self.old
             → IfErr result (λ fault. StopsAt (fed ++ piece.now) fault) }
     {
@@ -71,7 +72,8 @@ impl Counter {
 
     /// Feeds all bytes to the reader, and counts their events.
     pub fn feed(&mut self, piece: &[u8]) -> Result<(), StreamError>
-        requires { (fed : List ℕ) × IsCounted fed self.old × (length fed + length piece.now < 2 ^ 63) }
+        requires { (fed : List ℕ) × IsCounted fed self.old
+            × (length fed + length piece.now < 2 ^ 63) }
         ensures fed { (fed : List ℕ) → IsCounted fed self.old
             → IfOk result (λ _. IsCounted (fed ++ piece.now) self.new) }
         ensures stopped { (fed : List ℕ) → IsCounted fed self.old
@@ -98,13 +100,15 @@ impl Counter {
     /// ends.
     #[inline(always)]
     fn step(&mut self, piece: &[u8], list_end: &mut usize) -> Result<usize, StreamError>
-        requires { (fed : List ℕ) × HasCounted fed self.old.reader self.old.tops × (length fed + length piece.now < 2 ^ 63) }
+        requires { (fed : List ℕ) × HasCountedEvents fed self.old
+            × (length fed + length piece.now < 2 ^ 63) }
         ensures took { IfOk result (λ n. n ≤ length piece.now) }
-        ensures takes { ready self.old.reader ≡ [] → 0 < length piece.now → IfOk result (λ n. 0 < n) }
+        ensures takes { ready self.old.reader ≡ [] → 0 < length piece.now
+            → IfOk result (λ n. 0 < n) }
         ensures hands_out { IfOk result (λ n. n ≡ 0 → ready self.new.reader ≡ []) }
-        ensures counted { (fed : List ℕ) → HasCounted fed self.old.reader self.old.tops
-            → IfOk result (λ n. HasCounted (fed ++ take n piece.now) self.new.reader self.new.tops) }
-        ensures stopped { (fed : List ℕ) → HasCounted fed self.old.reader self.old.tops
+        ensures counted { (fed : List ℕ) → HasCountedEvents fed self.old
+            → IfOk result (λ n. HasCountedEvents (fed ++ take n piece.now) self.new) }
+        ensures stopped { (fed : List ℕ) → HasCountedEvents fed self.old
             → IfErr result (λ error. IsShown (fed ++ piece.now) error) }
         ensures bytes { self.new.bytes ≡ self.old.bytes }
     {
@@ -124,9 +128,9 @@ impl Counter {
     /// Counts the next event, if one is ready. Returns the length of the list that it opens.
     #[inline(always)]
     fn count_next(&mut self) -> Option<usize>
-        requires { (fed : List ℕ) × HasCounted fed self.old.reader self.old.tops × (length fed < 2 ^ 63) }
-        ensures counted { (fed : List ℕ) → HasCounted fed self.old.reader self.old.tops
-            → HasCounted fed self.new.reader self.new.tops }
+        requires { (fed : List ℕ) × HasCountedEvents fed self.old × (length fed < 2 ^ 63) }
+        ensures counted { (fed : List ℕ) → HasCountedEvents fed self.old
+            → HasCountedEvents fed self.new }
         ensures bytes { self.new.bytes ≡ self.old.bytes }
     {
         match self.reader.next() {
@@ -142,9 +146,9 @@ impl Counter {
     /// Counts all events that are ready, if there may be one.
     #[inline(always)]
     fn count_more(&mut self, may_be_ready: bool)
-        requires { (fed : List ℕ) × HasCounted fed self.old.reader self.old.tops × (length fed < 2 ^ 63) }
-        ensures counted { (fed : List ℕ) → HasCounted fed self.old.reader self.old.tops
-            → HasCounted fed self.new.reader self.new.tops }
+        requires { (fed : List ℕ) × HasCountedEvents fed self.old × (length fed < 2 ^ 63) }
+        ensures counted { (fed : List ℕ) → HasCountedEvents fed self.old
+            → HasCountedEvents fed self.new }
         ensures quiet { may_be_ready ≡ true → ready self.new.reader ≡ [] }
         ensures bytes { self.new.bytes ≡ self.old.bytes }
     {
@@ -156,9 +160,9 @@ impl Counter {
     /// Counts all events that are ready.
     #[inline(always)]
     fn count_ready(&mut self)
-        requires { (fed : List ℕ) × HasCounted fed self.old.reader self.old.tops × (length fed < 2 ^ 63) }
-        ensures counted { (fed : List ℕ) → HasCounted fed self.old.reader self.old.tops
-            → HasCounted fed self.new.reader self.new.tops }
+        requires { (fed : List ℕ) × HasCountedEvents fed self.old × (length fed < 2 ^ 63) }
+        ensures counted { (fed : List ℕ) → HasCountedEvents fed self.old
+            → HasCountedEvents fed self.new }
         ensures quiet { ready self.new.reader ≡ [] }
         ensures bytes { self.new.bytes ≡ self.old.bytes }
     {

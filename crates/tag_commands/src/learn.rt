@@ -1,20 +1,19 @@
 //! The command `codes --learn`: the table that a reply to `/content-codes` states.
 
 ghost use Rattle.std.specs.Prelude.{◌≡◌, ◌++◌, ◌∷◌, [], ℕ, List, length, IfOk, IfErr, OnOk, MatchOption};
-ghost use Rattle.std.specs.Io.KnownBytes.{Consumes};
-ghost use Rattle.command_core.specs.Seen.{Around, input_seen, output_seen, told_beside, no_share};
+ghost use Rattle.command_core.specs.Seen.{Around, input_of, output_of, told_beside, no_share};
 ghost use Rattle.command_core.specs.Endings.{IsAnswered};
 ghost use Rattle.tag_commands.specs.LearnCodes.{IsUnfinished, IsReply, IsLearned, StopsReading, table_text, learn_line, learn_status, table_fault, broken_fault, learn_meaning};
-ghost use Rattle.tag_commands.specs.Learning.{is_whole, IsLearning, LearnStops, IsRefusal};
+ghost use Rattle.tag_commands.specs.Learning.{is_whole, IsLearning, HasReadReply, LearnStops, IsRefusal};
 
 use crate::codes::lines_of;
 use crate::counting::{Counter, PIECE, TAG_LIMIT};
 use crate::tags_fault::broken_line;
 use code_table::{CodeError, CodeTable};
 use command_core::{Fault, Outcome, Refusal, write_result};
-use daap_outside::{Failed, Sink, Source};
 use dmap_stream::{Limits, StreamError, read_tag};
 use fault_lines::push_number;
+use outside_net::{Failed, Sink, Source};
 use std::alloc::{AllocError, Global};
 
 /// Why an input is not accepted as a reply. An allocation failure is not a `LearnFault`.
@@ -87,13 +86,13 @@ fn table_fault(error: CodeError) -> Fault<LearnFault>
 pub fn learn_codes<I: Source, W: Sink>(alloc: Global, input: &mut I, output: &mut W) -> Outcome
     ensures { (around : Around) → IsAnswered learn_meaning
         (told_beside around
-        (input_seen (I.left input.old) (I.faults input.old))
-        (input_seen (I.left input.new) (I.faults input.new))
-        (output_seen (W.taken output.old) (W.faults output.old))
-        (output_seen (W.taken output.new) (W.faults output.new)))
+        (input_of I.Source input.old)
+        (input_of I.Source input.new)
+        (output_of W.Sink output.old)
+        (output_of W.Sink output.new))
         result }
 {
-    let answer = learned(alloc, input);
+    let answer = learn_lines(alloc, input);
     write_result(alloc, output, answer)
 }
 
@@ -118,7 +117,8 @@ impl Learner {
     /// Takes further bytes, and returns the table if they end its reply.
     fn take(&mut self, alloc: Global, piece: &[u8]) -> Result<Option<CodeTable>, Fault<LearnFault>>
         requires { (fed : List ℕ) × IsLearning fed self.old }
-        ensures took { (fed : List ℕ) → IsLearning fed self.old → IfOk result (λ learned. MatchOption learned
+        ensures took { (fed : List ℕ) → IsLearning fed self.old
+            → IfOk result (λ learned. MatchOption learned
             (IsLearning (fed ++ piece.now) self.new)
             (λ table. IsReply table (fed ++ piece.now))) }
         ensures stopped { (fed : List ℕ) → IsLearning fed self.old
@@ -127,10 +127,10 @@ impl Learner {
         self.bytes.extend_from_slice(piece)?;
         match self.counter.feed(piece) {
             Ok(()) if !is_whole(self.bytes.as_slice()) => Ok(None),
-            Ok(()) => judged(alloc, self.bytes.as_slice()),
+            Ok(()) => table_in(alloc, self.bytes.as_slice()),
             Err(StreamError::Memory) => Err(Fault::Memory),
             // The malformed tag may be after the first tag.
-            Err(_) => judged(alloc, self.bytes.as_slice()),
+            Err(_) => table_in(alloc, self.bytes.as_slice()),
         }
     }
 
@@ -141,11 +141,13 @@ impl Learner {
         input: &mut I,
     ) -> Result<CodeTable, Fault<LearnFault>>
         requires { IsLearning [] self.old }
-        ensures told { IfOk result (λ table. (fed : List ℕ) × IsReply table fed × Consumes (I.left input.old) (I.left input.new) fed) }
+        ensures told { IfOk result (λ table. HasReadReply table
+            (input_of I.Source input.old)
+            (input_of I.Source input.new)) }
         ensures faultless { IfOk result (λ _. I.faults input.new ≡ I.faults input.old) }
         ensures cause { IfErr result (λ fault. StopsReading
-            (input_seen (I.left input.old) (I.faults input.old))
-            (input_seen (I.left input.new) (I.faults input.new))
+            (input_of I.Source input.old)
+            (input_of I.Source input.new)
             fault) }
     {
         let mut piece = [0; PIECE];
@@ -181,8 +183,10 @@ fn is_whole(bytes: &[u8]) -> bool
 }
 
 /// Returns the table that the first tag states, if the tag is whole and nothing follows it.
-fn judged(alloc: Global, bytes: &[u8]) -> Result<Option<CodeTable>, Fault<LearnFault>>
-    ensures told { IfOk result (λ learned. MatchOption learned (IsUnfinished bytes.now) (λ table. IsReply table bytes.now)) }
+fn table_in(alloc: Global, bytes: &[u8]) -> Result<Option<CodeTable>, Fault<LearnFault>>
+    ensures told { IfOk result (λ learned. MatchOption learned
+        (IsUnfinished bytes.now)
+        (λ table. IsReply table bytes.now)) }
     ensures refused { IfErr result (λ fault. IsRefusal bytes.now fault) }
 {
     let standard = CodeTable::standard(alloc)?;
@@ -204,11 +208,13 @@ fn judged(alloc: Global, bytes: &[u8]) -> Result<Option<CodeTable>, Fault<LearnF
 
 /// Reads the input to the end of its first tag, and returns the table that the tag states.
 fn told_table<I: Source>(alloc: Global, input: &mut I) -> Result<CodeTable, Fault<LearnFault>>
-    ensures told { IfOk result (λ table. (fed : List ℕ) × IsReply table fed × Consumes (I.left input.old) (I.left input.new) fed) }
+    ensures told { IfOk result (λ table. HasReadReply table
+        (input_of I.Source input.old)
+        (input_of I.Source input.new)) }
     ensures faultless { IfOk result (λ _. I.faults input.new ≡ I.faults input.old) }
     ensures cause { IfErr result (λ fault. StopsReading
-        (input_seen (I.left input.old) (I.faults input.old))
-        (input_seen (I.left input.new) (I.faults input.new))
+        (input_of I.Source input.old)
+        (input_of I.Source input.new)
         fault) }
 {
     let mut learner = Learner::new(alloc)?;
@@ -216,14 +222,14 @@ fn told_table<I: Source>(alloc: Global, input: &mut I) -> Result<CodeTable, Faul
 }
 
 /// Reads the input to its end, and returns the lines of the table that it states.
-fn learned<I: Source>(alloc: Global, input: &mut I) -> Result<Vec<u8>, Fault<LearnFault>>
+fn learn_lines<I: Source>(alloc: Global, input: &mut I) -> Result<Vec<u8>, Fault<LearnFault>>
     ensures learned { IfOk result (λ lines. IsLearned
-        (input_seen (I.left input.old) (I.faults input.old))
-        (input_seen (I.left input.new) (I.faults input.new))
+        (input_of I.Source input.old)
+        (input_of I.Source input.new)
         no_share lines.items) }
     ensures cause { IfErr result (λ fault. StopsReading
-        (input_seen (I.left input.old) (I.faults input.old))
-        (input_seen (I.left input.new) (I.faults input.new))
+        (input_of I.Source input.old)
+        (input_of I.Source input.new)
         fault) }
 {
     let table = match told_table(alloc, input) {

@@ -3,37 +3,32 @@
 ghost use Rattle.std.specs.Prelude.{◌≡◌, ◌+◌, ◌≤◌, ◌++◌, [], ℕ, List, length, IfOk, IfErr, OnOk};
 ghost use Rattle.std.specs.Io.KnownBytes.{Consumes, IsAtEnd};
 ghost use Rattle.dmap_stream.specs.Reader.{ready};
-ghost use Rattle.command_core.specs.Seen.{Around, input_seen, output_seen, told_beside, no_share};
+ghost use Rattle.command_core.specs.Seen.{Around, input_of, output_of, told_beside, no_share};
 ghost use Rattle.command_core.specs.Endings.{IsWritten, IsAnswered};
 ghost use Rattle.tag_commands.specs.TopTags.{tags_limit};
 ghost use Rattle.tag_commands.specs.Counting.{IsCounted, EndsCounted};
 ghost use Rattle.tag_commands.specs.Show.{show_meaning, IsInStep, IsShownWhole};
-ghost use Rattle.tag_commands.specs.Showing.{HasShown, IsShowing, ShowsSome, IsLast, StopsShowing, StepStops, ShowStops};
+ghost use Rattle.tag_commands.specs.Showing.{HasShownEvents, IsShowing, ShowsSome, IsLast, StopsShowing, StepStops, ShowStops};
 
 use crate::counting::{Counter, PIECE};
 use crate::tags_fault::{TagsFault, tags_fault};
 use command_core::{Fault, Outcome, write_error};
-use daap_outside::{Failed, Sink, Source, put_all};
 use dmap_show::show_event;
 use dmap_stream::StreamError;
+use outside_net::{Failed, Sink, Source, put_all};
 use std::alloc::{AllocError, Global};
 
 /// Runs `show`: writes the lines of the input's tags as they are read.
 pub fn show_tags<I: Source, W: Sink>(alloc: Global, input: &mut I, output: &mut W) -> Outcome
-    ensures answered { (around : Around) → IsAnswered show_meaning
+    ensures { (around : Around) → IsAnswered show_meaning
         (told_beside around
-        (input_seen (I.left input.old) (I.faults input.old))
-        (input_seen (I.left input.new) (I.faults input.new))
-        (output_seen (W.taken output.old) (W.faults output.old))
-        (output_seen (W.taken output.new) (W.faults output.new)))
+        (input_of I.Source input.old)
+        (input_of I.Source input.new)
+        (output_of W.Sink output.old)
+        (output_of W.Sink output.new))
         result }
-    ensures in_step { IsInStep
-        (input_seen (I.left input.old) (I.faults input.old))
-        (input_seen (I.left input.new) (I.faults input.new))
-        (output_seen (W.taken output.old) (W.faults output.old))
-        (output_seen (W.taken output.new) (W.faults output.new)) }
 {
-    match shown(alloc, input, output) {
+    match write_lines(alloc, input, output) {
         Ok(()) => Outcome {
             status: 0,
             history: None,
@@ -76,17 +71,19 @@ impl Shower {
 
     /// Takes further bytes, and writes the lines of their events.
     fn step<W: Sink>(&mut self, piece: &[u8], output: &mut W) -> Result<(), Stop>
-        requires { (fed written : List ℕ) × IsShowing fed written self.old × (length fed ≤ tags_limit) }
+        requires { (fed written : List ℕ) × IsShowing fed written self.old
+            × (length fed ≤ tags_limit) }
         ensures went { (fed written : List ℕ) → IsShowing fed written self.old
-            → IfOk result (λ _. (more : List ℕ) × IsShowing (fed ++ piece.now) (written ++ more) self.new
+            → IfOk result (λ _. (more : List ℕ)
+            × IsShowing (fed ++ piece.now) (written ++ more) self.new
             × (length (fed ++ piece.now) ≤ tags_limit)
-            × IsWritten (output_seen (W.taken output.old) (W.faults output.old))
-            (output_seen (W.taken output.new) (W.faults output.new)) more) }
+            × IsWritten (output_of W.Sink output.old) (output_of W.Sink output.new) more) }
         ensures idle { OnOk result (self.new.lines.items ≡ []) }
         ensures stopped { (fed written : List ℕ) → IsShowing fed written self.old
-            → IfErr result (λ stop. (more : List ℕ) × StepStops (fed ++ piece.now) (written ++ more) more
-            (output_seen (W.taken output.old) (W.faults output.old))
-            (output_seen (W.taken output.new) (W.faults output.new)) stop) }
+            → IfErr result (λ stop. (more : List ℕ)
+            × StepStops (fed ++ piece.now) (written ++ more) more
+            (output_of W.Sink output.old)
+            (output_of W.Sink output.new) stop) }
     {
         let took = self.take(piece);
         if let Err(Failed) = put_all(output, self.lines.as_slice()) {
@@ -101,11 +98,14 @@ impl Shower {
 
     /// Makes the lines of the events of further bytes, up to the limit of the input.
     fn take(&mut self, piece: &[u8]) -> Result<(), Fault<TagsFault>>
-        requires { (fed written : List ℕ) × IsShowing fed written self.old × (length fed ≤ tags_limit) }
+        requires { (fed written : List ℕ) × IsShowing fed written self.old
+            × (length fed ≤ tags_limit) }
         ensures took { (fed written : List ℕ) → IsShowing fed written self.old
-            → IfOk result (λ _. IsShowing (fed ++ piece.now) written self.new × (length (fed ++ piece.now) ≤ tags_limit)) }
+            → IfOk result (λ _. IsShowing (fed ++ piece.now) written self.new
+            × (length (fed ++ piece.now) ≤ tags_limit)) }
         ensures stopped { (fed written : List ℕ) → IsShowing fed written self.old
-            → IfErr result (λ fault. StopsShowing (fed ++ piece.now) (written ++ self.new.lines.items) fault) }
+            → IfErr result (λ fault.
+            StopsShowing (fed ++ piece.now) (written ++ self.new.lines.items) fault) }
     {
         let (front, behind) = self.counter.up_to_limit(piece);
         match self.feed(front) {
@@ -117,11 +117,13 @@ impl Shower {
 
     /// Feeds all bytes to the reader, and makes the lines of their events, also of those before a malformed tag.
     fn feed(&mut self, piece: &[u8]) -> Result<(), StreamError>
-        requires { (fed written : List ℕ) × IsShowing fed written self.old × (length fed + length piece.now ≤ tags_limit) }
+        requires { (fed written : List ℕ) × IsShowing fed written self.old
+            × (length fed + length piece.now ≤ tags_limit) }
         ensures fed { (fed written : List ℕ) → IsShowing fed written self.old
             → IfOk result (λ _. IsShowing (fed ++ piece.now) written self.new) }
         ensures stopped { (fed written : List ℕ) → IsShowing fed written self.old
-            → IfErr result (λ error. IsLast (fed ++ piece.now) (written ++ self.new.lines.items) error) }
+            → IfErr result (λ error.
+            IsLast (fed ++ piece.now) (written ++ self.new.lines.items) error) }
     {
         let mut rest = piece;
         while !rest.is_empty() {
@@ -142,17 +144,14 @@ impl Shower {
 
     /// Makes the lines of all events that are ready.
     fn show_ready(&mut self) -> Result<(), AllocError>
-        requires { (fed written : List ℕ)
-            × HasShown fed written self.old.counter.reader self.old.counter.tops self.old.lines.items
+        requires { (fed written : List ℕ) × HasShownEvents fed written self.old
             × (length fed ≤ tags_limit) }
-        ensures shown { (fed written : List ℕ)
-            → HasShown fed written self.old.counter.reader self.old.counter.tops self.old.lines.items
-            → OnOk result (HasShown fed written self.new.counter.reader self.new.counter.tops self.new.lines.items) }
+        ensures shown { (fed written : List ℕ) → HasShownEvents fed written self.old
+            → OnOk result (HasShownEvents fed written self.new) }
         ensures quiet { OnOk result (ready self.new.counter.reader ≡ []) }
         ensures error { self.new.counter.reader.error ≡ self.old.counter.reader.error }
         ensures bytes { self.new.counter.bytes ≡ self.old.counter.bytes }
-        ensures some { (fed written : List ℕ)
-            → HasShown fed written self.old.counter.reader self.old.counter.tops self.old.lines.items
+        ensures some { (fed written : List ℕ) → HasShownEvents fed written self.old
             → IfErr result (λ _. ShowsSome fed (written ++ self.new.lines.items)) }
     {
         while let Some(event) = self.counter.reader.next() {
@@ -167,22 +166,24 @@ impl Shower {
     fn show_input<I: Source, W: Sink>(&mut self, input: &mut I, output: &mut W) -> Result<(), Stop>
         requires first { IsShowing [] [] self.old }
         requires idle { self.old.lines.items ≡ [] }
-        ensures read { OnOk result ((fed written : List ℕ) × IsShowing fed written self.new × (self.new.lines.items ≡ [])
-            × (length fed ≤ tags_limit) × Consumes (I.left input.old) (I.left input.new) fed × IsAtEnd (I.left input.new)
+        ensures read { OnOk result ((fed written : List ℕ) × IsShowing fed written self.new
+            × (self.new.lines.items ≡ [])
+            × (length fed ≤ tags_limit)
+            × Consumes (I.left input.old) (I.left input.new) fed
+            × IsAtEnd (I.left input.new)
             × (I.faults input.new ≡ I.faults input.old)
-            × IsWritten (output_seen (W.taken output.old) (W.faults output.old))
-            (output_seen (W.taken output.new) (W.faults output.new)) written) }
+            × IsWritten (output_of W.Sink output.old) (output_of W.Sink output.new) written) }
         ensures stopped { IfErr result (λ stop. ShowStops
-            (input_seen (I.left input.old) (I.faults input.old))
-            (input_seen (I.left input.new) (I.faults input.new))
-            (output_seen (W.taken output.old) (W.faults output.old))
-            (output_seen (W.taken output.new) (W.faults output.new))
+            (input_of I.Source input.old)
+            (input_of I.Source input.new)
+            (output_of W.Sink output.old)
+            (output_of W.Sink output.new)
             stop) }
         ensures in_step { IsInStep
-            (input_seen (I.left input.old) (I.faults input.old))
-            (input_seen (I.left input.new) (I.faults input.new))
-            (output_seen (W.taken output.old) (W.faults output.old))
-            (output_seen (W.taken output.new) (W.faults output.new)) }
+            (input_of I.Source input.old)
+            (input_of I.Source input.new)
+            (output_of W.Sink output.old)
+            (output_of W.Sink output.new) }
     {
         let mut piece = [0; PIECE];
         loop {
@@ -211,23 +212,23 @@ impl Shower {
 /// Reads the input to its end, and writes the lines of its tags as it reads them.
 ///
 /// If the input is refused, its lines up to there have been written.
-fn shown<I: Source, W: Sink>(alloc: Global, input: &mut I, output: &mut W) -> Result<(), Stop>
+fn write_lines<I: Source, W: Sink>(alloc: Global, input: &mut I, output: &mut W) -> Result<(), Stop>
     ensures shown { OnOk result ((lines : List ℕ)
-        × IsShownWhole (input_seen (I.left input.old) (I.faults input.old))
-        (input_seen (I.left input.new) (I.faults input.new)) no_share lines
-        × IsWritten (output_seen (W.taken output.old) (W.faults output.old))
-        (output_seen (W.taken output.new) (W.faults output.new)) lines) }
+        × IsShownWhole (input_of I.Source input.old)
+        (input_of I.Source input.new) no_share lines
+        × IsWritten (output_of W.Sink output.old)
+        (output_of W.Sink output.new) lines) }
     ensures stopped { IfErr result (λ stop. ShowStops
-        (input_seen (I.left input.old) (I.faults input.old))
-        (input_seen (I.left input.new) (I.faults input.new))
-        (output_seen (W.taken output.old) (W.faults output.old))
-        (output_seen (W.taken output.new) (W.faults output.new))
+        (input_of I.Source input.old)
+        (input_of I.Source input.new)
+        (output_of W.Sink output.old)
+        (output_of W.Sink output.new)
         stop) }
     ensures in_step { IsInStep
-        (input_seen (I.left input.old) (I.faults input.old))
-        (input_seen (I.left input.new) (I.faults input.new))
-        (output_seen (W.taken output.old) (W.faults output.old))
-        (output_seen (W.taken output.new) (W.faults output.new)) }
+        (input_of I.Source input.old)
+        (input_of I.Source input.new)
+        (output_of W.Sink output.old)
+        (output_of W.Sink output.new) }
 {
     let mut shower = match Shower::new(alloc) {
         Ok(shower) => shower,

@@ -6,16 +6,16 @@ ghost use Rattle.dmap_tags.specs.Spelling.{spellings, are_spellable};
 ghost use Rattle.dmap_tags.specs.Tree.{trees_of};
 ghost use Rattle.code_table.specs.Standard.{standard_rows};
 ghost use Rattle.dmap_show.specs.Readable.{Shows};
-ghost use Rattle.command_core.specs.Seen.{Around, input_seen, output_seen, told_beside, no_share};
+ghost use Rattle.command_core.specs.Seen.{Around, input_of, output_of, told_beside, no_share};
 ghost use Rattle.command_core.specs.Endings.{IsAnswered};
 ghost use Rattle.tag_commands.specs.ShowBack.{text_limit, text_line, text_status, line_at, IsShownBack, IsTextFault, StopsReading, show_fault, show_back_meaning};
 
 use code_table::CodeTable;
 use command_core::{Fault, Outcome, Refusal, read_fault, write_result};
-use daap_outside::{Sink, Source, read_within};
 use dmap_show::{ShowError, read_show};
 use dmap_tags::{Tag, TagError, Tags, encode_into};
 use fault_lines::push_number;
+use outside_net::{Sink, Source, read_within};
 use std::alloc::{AllocError, Global};
 use std::str;
 
@@ -74,25 +74,25 @@ fn show_fault(error: ShowError) -> Fault<TextFault>
 pub fn read_shown<I: Source, W: Sink>(alloc: Global, input: &mut I, output: &mut W) -> Outcome
     ensures { (around : Around) → IsAnswered show_back_meaning
         (told_beside around
-        (input_seen (I.left input.old) (I.faults input.old))
-        (input_seen (I.left input.new) (I.faults input.new))
-        (output_seen (W.taken output.old) (W.faults output.old))
-        (output_seen (W.taken output.new) (W.faults output.new)))
+        (input_of I.Source input.old)
+        (input_of I.Source input.new)
+        (output_of W.Sink output.old)
+        (output_of W.Sink output.new))
         result }
 {
-    let answer = unshown(alloc, input);
+    let answer = bytes_shown(alloc, input);
     write_result(alloc, output, answer)
 }
 
 /// Reads the input to its end, and returns the bytes of the tags that it shows.
-fn unshown<I: Source>(alloc: Global, input: &mut I) -> Result<Vec<u8>, Fault<TextFault>>
+fn bytes_shown<I: Source>(alloc: Global, input: &mut I) -> Result<Vec<u8>, Fault<TextFault>>
     ensures shown { IfOk result (λ bytes. IsShownBack
-        (input_seen (I.left input.old) (I.faults input.old))
-        (input_seen (I.left input.new) (I.faults input.new))
+        (input_of I.Source input.old)
+        (input_of I.Source input.new)
         no_share bytes.items) }
     ensures cause { IfErr result (λ fault. StopsReading
-        (input_seen (I.left input.old) (I.faults input.old))
-        (input_seen (I.left input.new) (I.faults input.new))
+        (input_of I.Source input.old)
+        (input_of I.Source input.new)
         fault) }
 {
     let text = match read_within(alloc, input, TEXT_LIMIT) {

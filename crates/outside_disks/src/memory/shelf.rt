@@ -51,7 +51,8 @@ pub(crate) struct Shelf {
 impl Shelf {
     ghost use Rattle.std.specs.FinMap as finite;
     ghost use Rattle.outside_disks.specs.Told.{Grows};
-    ghost use Rattle.outside_disks.specs.Calls.{name_of, bytes_of};
+    ghost use Rattle.outside_disks.specs.Calls.{name_of, bytes_of, images_of};
+    ghost use Rattle.outside_disks.specs.Disks.{Only};
     ghost use Rattle.outside_disks.specs.Shelf.{contents_in, asked_in, spare_in};
 
     /// Returns the disks, to be opened in order, with capacity for `opens` requested names.
@@ -85,6 +86,7 @@ impl Shelf {
     pub(crate) fn take(&mut self, name: &str) -> Option<MemDisk>
         ensures opened { IfSome result (λ disk. (name_of disk ≡ name.now)
             × (bytes_of disk ≡ unwrap_or (finite.get (contents_in self.old) name.now) [])) }
+        ensures alone { IfSome result (λ disk. Only (Some (bytes_of disk)) (images_of disk)) }
         ensures fresh { IfSome result (λ disk. disk.faults ≡ 0) }
         ensures none { spare_in self.old ≡ [] → result ≡ None }
         ensures asked_stays { asked_in self.new ≡ asked_in self.old }

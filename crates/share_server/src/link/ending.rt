@@ -3,17 +3,17 @@
 ghost use Rattle.std.specs.Prelude.{◌≡◌, ◌≢◌, false};
 ghost use Rattle.share_server.specs.Losses.{is_loss};
 ghost use Rattle.share_server.specs.Serving.{CountsEnd};
-ghost use Rattle.share_server.specs.Written.{IsGivenUp, IsRefused};
+ghost use Rattle.share_server.specs.Written.{Got500, IsRefused};
 
 use crate::report::LinkEnd;
-use daap_outside::{Failed, Link};
 use http_heads::HeadError;
+use outside_net::{Failed, Link};
 use reply_bytes::{ReplyError, status_of, write_failure, write_refusal};
 use std::alloc::Global;
 
 /// Ends a connection after a failed allocation, and writes the 500. Does not allocate.
 pub(crate) fn end_out_of_memory<K: Link>(link: &mut K) -> LinkEnd
-    ensures told { IsGivenUp (K.taken link.old) (K.taken link.new) result }
+    ensures told { Got500 (K.taken link.old) (K.taken link.new) result }
     ensures beside { K.beside_taken link.new ≡ K.beside_taken link.old }
     ensures count { CountsEnd (K.faults link.old) (K.faults link.new) result }
     ensures goes_on { is_loss result ≡ false }
@@ -26,8 +26,10 @@ pub(crate) fn end_out_of_memory<K: Link>(link: &mut K) -> LinkEnd
 
 /// Ends a connection whose bytes made the reader return `error`.
 pub(crate) fn end_on_head_error<K: Link>(alloc: Global, link: &mut K, error: HeadError) -> LinkEnd
-    ensures memory { error ≡ HeadError.Memory → IsGivenUp (K.taken link.old) (K.taken link.new) result }
-    ensures refused { error ≢ HeadError.Memory → IsRefused error (K.taken link.old) (K.taken link.new) result }
+    ensures memory { error ≡ HeadError.Memory
+        → Got500 (K.taken link.old) (K.taken link.new) result }
+    ensures refused { error ≢ HeadError.Memory
+        → IsRefused error (K.taken link.old) (K.taken link.new) result }
     ensures beside { K.beside_taken link.new ≡ K.beside_taken link.old }
     ensures count { CountsEnd (K.faults link.old) (K.faults link.new) result }
     ensures goes_on { is_loss result ≡ false }

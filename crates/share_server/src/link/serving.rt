@@ -1,25 +1,23 @@
 //! Serves one connection.
 
-ghost use Rattle.std.specs.Prelude.{◌≡◌, ◌++◌, ℕ, List, Option, None, false};
+ghost use Rattle.std.specs.Prelude.{◌≡◌, ◌++◌, List, None, false};
 ghost use Rattle.item_model.specs.declared.changes.Edit.{Edit};
 ghost use Rattle.share_history.specs.Histories.{batches};
 ghost use Rattle.share_asks.specs.declared.ask.Role.{Role as RoleSeen};
 ghost use Rattle.share_lock.specs.Passes.{lock_id, known, IsReady};
-ghost use Rattle.share_server.specs.Passes.{Pass as PassSeen};
 ghost use Rattle.share_server.specs.Served.{added_entries};
 ghost use Rattle.share_server.specs.Losses.{is_loss};
-ghost use Rattle.share_server.specs.Kept.{Keeping};
-ghost use Rattle.share_server.specs.Links.{LinkEnded};
-ghost use Rattle.share_server.specs.Steps.{Underway};
-ghost use Rattle.share_server.specs.Serving.{LinkServed, CountsEnd, limit_of};
+ghost use Rattle.share_server.specs.Kept.{KeepsEdits};
+ghost use Rattle.share_server.specs.Serving.{CountsEnd, limit_of};
+ghost use Rattle.share_server.specs.Steps.{ServingSeen, serving_of, progress_of, AfterReads, EndsLink, ServesLink};
 
 use crate::link::ending::end_out_of_memory;
-use crate::link::exchanging::Service;
-use crate::link::reading::{Serving, pump};
+use crate::link::exchanging::LinkContext;
+use crate::link::reading::{LinkProgress, pump};
 use crate::report::{LinkEnd, LinkReport, Served, ServedRequests};
-use daap_outside::Link;
 use edit_keeping::{Keeps, Unkept};
 use http_front::HeadReader;
+use outside_net::Link;
 use share_asks::Role;
 use share_core::Share;
 use share_lock::{Bell, Pass, ShareLock};
@@ -43,7 +41,8 @@ pub fn serve_link<K: Link, R: Wait + Clock>(
 ) -> LinkReport
     requires ready { IsReady (lock_id lock.now) pass.old }
     ensures ready { IsReady (lock_id lock.now) pass.new }
-    ensures served { LinkServed role budget (known pass.old) (known pass.new) (K.left link.old) (K.taken link.old) (K.taken link.new) result }
+    ensures served { ServesLink role budget (serving_of K.Link (known pass.old) link.old)
+        (serving_of K.Link (known pass.new) link.new) result }
     ensures unlost { is_loss result.end ≡ false }
     ensures count { CountsEnd (K.faults link.old) (K.faults link.new) result.end }
 {
@@ -68,13 +67,16 @@ pub fn keep_link<K: Link, F: Keeps, R: Wait + Clock>(
     requires ready { IsReady (lock_id lock.now) pass.old }
     requires going { F.is_lost keeper.old ≡ false }
     ensures ready { IsReady (lock_id lock.now) pass.new }
-    ensures served { LinkServed role budget (known pass.old) (known pass.new) (K.left link.old) (K.taken link.old) (K.taken link.new) result }
+    ensures served { ServesLink role budget (serving_of K.Link (known pass.old) link.old)
+        (serving_of K.Link (known pass.new) link.new) result }
     // The keeper keeps what it kept before, and then the edits of the served requests.
-    ensures kept { (bs : List (List Edit)) → F.keeps keeper.old bs → F.keeps keeper.new (bs ++ batches (added_entries (known pass.new).seen result.served)) }
-    ensures keeping { Keeping (F.keeps keeper.old) (F.keeps keeper.new) (F.is_lost keeper.new) (F.faults keeper.old) (F.faults keeper.new) (known pass.old) (known pass.new) (is_loss result.end) }
+    ensures kept { (bs : List (List Edit)) → F.keeps keeper.old bs
+        → F.keeps keeper.new (bs ++ batches (added_entries (known pass.new).seen result.served)) }
+    ensures keeping { KeepsEdits F.Keeps keeper.old keeper.new (known pass.old) (known pass.new)
+        (is_loss result.end) }
     ensures count { CountsEnd (K.faults link.old) (K.faults link.new) result.end }
 {
-    let service = Service {
+    let context = LinkContext {
         rt,
         alloc,
         lock,
@@ -82,7 +84,7 @@ pub fn keep_link<K: Link, F: Keeps, R: Wait + Clock>(
         limit: budget.min(MAX_REQUESTS),
     };
     let number = pass.number();
-    let (served, end) = serve_to_end(&service, pass, link, keeper, role);
+    let (served, end) = serve_to_end(&context, pass, link, keeper, role);
     LinkReport {
         number,
         served: ServedRequests::of(served),
@@ -91,53 +93,58 @@ pub fn keep_link<K: Link, F: Keeps, R: Wait + Clock>(
 }
 
 fn serve_to_end<K: Link, F: Keeps, R: Wait + Clock>(
-    service: &Service<'_, R>,
+    context: &LinkContext<'_, R>,
     pass: &mut Pass<Share>,
     link: &mut K,
     keeper: &mut F,
     role: Role,
 ) -> (Vec<Served>, LinkEnd)
-    requires ready { IsReady (lock_id service.now.lock.now) pass.old }
+    requires ready { IsReady (lock_id context.now.lock.now) pass.old }
     requires going { F.is_lost keeper.old ≡ false }
-    ensures ready { IsReady (lock_id service.now.lock.now) pass.new }
-    ensures ended { LinkEnded role service.now.limit (known pass.old) (known pass.new) (K.left link.old) (K.taken link.old) (K.taken link.new) result.0.items result.1 }
-    ensures keeping { Keeping (F.keeps keeper.old) (F.keeps keeper.new) (F.is_lost keeper.new) (F.faults keeper.old) (F.faults keeper.new) (known pass.old) (known pass.new) (is_loss result.1) }
+    ensures ready { IsReady (lock_id context.now.lock.now) pass.new }
+    ensures ended { EndsLink role context.now.limit (serving_of K.Link (known pass.old) link.old)
+        (serving_of K.Link (known pass.new) link.new) result.0.items result.1 }
+    ensures keeping { KeepsEdits F.Keeps keeper.old keeper.new (known pass.old) (known pass.new)
+        (is_loss result.1) }
     ensures count { CountsEnd (K.faults link.old) (K.faults link.new) result.1 }
 {
-    let served = Vec::new(service.alloc);
-    if service.limit == 0 {
+    let served = Vec::new(context.alloc);
+    if context.limit == 0 {
         return (served, LinkEnd::Spent);
     }
-    let Ok(reader) = HeadReader::new(service.alloc, role) else {
+    let Ok(reader) = HeadReader::new(context.alloc, role) else {
         return (served, end_out_of_memory(link));
     };
-    let mut serving = Serving { reader, served };
-    let end = pump_to_end(service, pass, link, keeper, &mut serving);
+    let mut progress = LinkProgress { reader, served };
+    let end = pump_to_end(context, pass, link, keeper, &mut progress);
     // A call drops the reader, so that the end of this function drops nothing.
-    drop(serving.reader);
-    (serving.served, end)
+    drop(progress.reader);
+    (progress.served, end)
 }
 
 // Reads and serves until the connection ends. Returns its end.
 fn pump_to_end<K: Link, F: Keeps, R: Wait + Clock>(
-    service: &Service<'_, R>,
+    context: &LinkContext<'_, R>,
     pass: &mut Pass<Share>,
     link: &mut K,
     keeper: &mut F,
-    serving: &mut Serving,
+    progress: &mut LinkProgress,
 ) -> LinkEnd
-    requires ready { IsReady (lock_id service.now.lock.now) pass.old }
-    requires idle { serving.old.reader.ready ≡ None }
+    requires ready { IsReady (lock_id context.now.lock.now) pass.old }
+    requires idle { progress.old.reader.ready ≡ None }
     requires going { F.is_lost keeper.old ≡ false }
-    ensures ready { IsReady (lock_id service.now.lock.now) pass.new }
-    ensures ended { (role : RoleSeen) (k : PassSeen) (left taken : Option (List ℕ)) → Underway role service.now.limit k (known pass.old) left (K.left link.old) taken (K.taken link.old) serving.old.reader serving.old.served.items 0
-        → LinkEnded role service.now.limit k (known pass.new) left taken (K.taken link.new) serving.new.served.items result }
-    ensures keeping { Keeping (F.keeps keeper.old) (F.keeps keeper.new) (F.is_lost keeper.new) (F.faults keeper.old) (F.faults keeper.new) (known pass.old) (known pass.new) (is_loss result) }
+    ensures ready { IsReady (lock_id context.now.lock.now) pass.new }
+    ensures ended { (role : RoleSeen) (start : ServingSeen)
+        → AfterReads role context.now.limit start (progress_of K.Link (known pass.old) link.old progress.old) 0
+        → EndsLink role context.now.limit start (serving_of K.Link (known pass.new) link.new)
+        progress.new.served.items result }
+    ensures keeping { KeepsEdits F.Keeps keeper.old keeper.new (known pass.old) (known pass.new)
+        (is_loss result) }
     ensures count { CountsEnd (K.faults link.old) (K.faults link.new) result }
 {
     let mut consumed = 0;
-    for _ in service.rt.forever() {
-        match pump(service, pass, link, keeper, serving, &mut consumed) {
+    for _ in context.rt.forever() {
+        match pump(context, pass, link, keeper, progress, &mut consumed) {
             None => {}
             Some(end) => return end,
         }

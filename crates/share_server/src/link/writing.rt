@@ -6,12 +6,12 @@ ghost use Rattle.listing_plan.specs.Plans.{IsWritable, plan_bytes};
 ghost use Rattle.reply_bytes.specs.ReplyBytes.{with_head, failure_bytes};
 ghost use Rattle.share_server.specs.Losses.{is_loss, is_loss_if};
 ghost use Rattle.share_server.specs.Serving.{CountsEnd};
-ghost use Rattle.share_server.specs.Written.{WasWritten, IsSayable, said_bytes, CountsMaybe, IsCalm};
+ghost use Rattle.share_server.specs.Written.{WasWritten, IsWritableReply, said_bytes, CountsMaybe, IsNoError};
 
 use crate::link::ending::end_out_of_memory;
 use crate::report::LinkEnd;
-use daap_outside::{Failed, Link};
 use listing_plan::Plan;
+use outside_net::{Failed, Link};
 use reply_bytes::{ReplyError, write_failure, write_reply};
 use share_asks::BodyForm;
 use share_core::ReplyContent;
@@ -26,18 +26,19 @@ pub(crate) fn reply<K: Link>(
     added: bool,
     due: Option<LinkEnd>,
 ) -> Option<LinkEnd>
-    requires sayable { IsSayable said }
-    requires calm { IsCalm due }
+    requires writable { IsWritableReply said }
+    requires no_error { IsNoError due }
     requires goes_on { is_loss_if due ≡ false }
-    ensures written { WasWritten (said_bytes said (is_some due)) added due (K.taken link.old) (K.taken link.new) result }
+    ensures written { WasWritten (said_bytes said (is_some due)) added due
+        (K.taken link.old) (K.taken link.new) result }
     ensures beside { K.beside_taken link.new ≡ K.beside_taken link.old }
     ensures count { CountsMaybe (K.faults link.old) (K.faults link.new) result }
     ensures goes_on { is_loss_if result ≡ false }
 {
     match said {
-        None => failure(link, due),
+        None => write_500(link, due),
         Some(ReplyContent { status, form, plan }) => {
-            let end = whole(alloc, link, status, form, &plan, added, due);
+            let end = write_plan(alloc, link, status, form, &plan, added, due);
             // A call drops the plan, so that the end of this function drops nothing.
             drop(plan);
             end
@@ -45,10 +46,11 @@ pub(crate) fn reply<K: Link>(
     }
 }
 
-fn failure<K: Link>(link: &mut K, due: Option<LinkEnd>) -> Option<LinkEnd>
-    requires calm { IsCalm due }
+fn write_500<K: Link>(link: &mut K, due: Option<LinkEnd>) -> Option<LinkEnd>
+    requires no_error { IsNoError due }
     requires goes_on { is_loss_if due ≡ false }
-    ensures written { (added : _) → WasWritten (failure_bytes (is_some due)) added due (K.taken link.old) (K.taken link.new) result }
+    ensures written { (added : _)
+        → WasWritten (failure_bytes (is_some due)) added due (K.taken link.old) (K.taken link.new) result }
     ensures beside { K.beside_taken link.new ≡ K.beside_taken link.old }
     ensures count { CountsMaybe (K.faults link.old) (K.faults link.new) result }
     ensures goes_on { is_loss_if result ≡ false }
@@ -59,7 +61,7 @@ fn failure<K: Link>(link: &mut K, due: Option<LinkEnd>) -> Option<LinkEnd>
     }
 }
 
-fn whole<K: Link>(
+fn write_plan<K: Link>(
     alloc: Global,
     link: &mut K,
     status: u16,
@@ -70,9 +72,10 @@ fn whole<K: Link>(
 ) -> Option<LinkEnd>
     requires reason { HasReason status }
     requires writable { IsWritable plan.now }
-    requires calm { IsCalm due }
+    requires no_error { IsNoError due }
     requires goes_on { is_loss_if due ≡ false }
-    ensures written { WasWritten (with_head status form (plan_bytes plan.now) (is_some due)) added due (K.taken link.old) (K.taken link.new) result }
+    ensures written { WasWritten (with_head status form (plan_bytes plan.now) (is_some due))
+        added due (K.taken link.old) (K.taken link.new) result }
     ensures beside { K.beside_taken link.new ≡ K.beside_taken link.old }
     ensures count { CountsMaybe (K.faults link.old) (K.faults link.new) result }
     ensures goes_on { is_loss_if result ≡ false }
@@ -86,7 +89,8 @@ fn whole<K: Link>(
 
 // Allocating the head failed. Never writes a 500 if the request added an entry.
 fn end_without_head<K: Link>(link: &mut K, added: bool) -> LinkEnd
-    ensures written { (bytes : _) (due : _) → WasWritten bytes added due (K.taken link.old) (K.taken link.new) (Some result) }
+    ensures written { (bytes : _) (due : _)
+        → WasWritten bytes added due (K.taken link.old) (K.taken link.new) (Some result) }
     ensures beside { K.beside_taken link.new ≡ K.beside_taken link.old }
     ensures count { CountsEnd (K.faults link.old) (K.faults link.new) result }
     ensures goes_on { is_loss result ≡ false }

@@ -5,12 +5,12 @@ ghost use Rattle.http_front.specs.Readable.{IsReadableWant};
 ghost use Rattle.share_asks.specs.Valid.{IsValidWant};
 ghost use Rattle.share_lock.specs.Passes.{lock_id, known, IsReady};
 ghost use Rattle.share_server.specs.Answering.{IsOutcome, CountsOutcome, loses};
-ghost use Rattle.share_server.specs.Kept.{Keeping};
+ghost use Rattle.share_server.specs.Kept.{KeepsEdits};
 
 use crate::turns::looks::turn;
 use crate::turns::outcome::{Answered, TurnOutcome, Unanswered};
-use daap_outside::Link;
 use edit_keeping::Keeps;
+use outside_net::Link;
 use share_asks::Ask;
 use share_core::Share;
 use share_lock::{Bell, Pass, ShareLock};
@@ -47,7 +47,8 @@ pub fn answer_request<K: Link, F: Keeps, R: Wait + Clock>(
     requires going { F.is_lost keeper.old ≡ false }
     ensures ready { IsReady (lock_id lock.now) pass.new }
     ensures outcome { IsOutcome (known pass.old) (known pass.new) ask.now result }
-    ensures keeping { Keeping (F.keeps keeper.old) (F.keeps keeper.new) (F.is_lost keeper.new) (F.faults keeper.old) (F.faults keeper.new) (known pass.old) (known pass.new) (loses result) }
+    ensures keeping { KeepsEdits F.Keeps keeper.old keeper.new (known pass.old) (known pass.new)
+        (loses result) }
     ensures taken { K.taken link.new ≡ K.taken link.old }
     ensures beside { K.beside_taken link.new ≡ K.beside_taken link.old }
     ensures count { CountsOutcome (K.faults link.old) (K.faults link.new) result }

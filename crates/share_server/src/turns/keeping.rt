@@ -8,7 +8,7 @@ ghost use Rattle.share_lock.specs.Known.{after_turn};
 ghost use Rattle.share_core.specs.Laws.{Grows};
 ghost use Rattle.share_server.specs.Passes.{Pass as Known};
 ghost use Rattle.share_server.specs.Answering.{IsTurnOutcome, Finds, HasAdded, has_added, turn_outcome, loses_in};
-ghost use Rattle.share_server.specs.Kept.{IsReadyFor, Keeping, edits_wanted};
+ghost use Rattle.share_server.specs.Kept.{IsReadyFor, KeepsEdits, edits_wanted};
 
 use crate::report::Served;
 use crate::turns::outcome::{Answered, TurnOutcome};
@@ -36,9 +36,11 @@ pub(crate) fn ask_share<L: Ledger, F: Keeps>(
     requires made { IsReadyFor F.is_for (edits_wanted ask.now.want) ready }
     requires going { F.is_lost keeper.old ≡ false }
     ensures grows { Grows share.old by share.new }
-    ensures looked { (k : Known) → k.number ≡ by → Finds k share.old → IsTurnOutcome k (after_turn k share.new.history) ask.now result }
+    ensures looked { (k : Known) → k.number ≡ by → Finds k share.old
+        → IsTurnOutcome k (after_turn k share.new.history) ask.now result }
     ensures keeping { (k : Known) → k.number ≡ by → Finds k share.old
-        → Keeping (F.keeps keeper.old) (F.keeps keeper.new) (F.is_lost keeper.new) (F.faults keeper.old) (F.faults keeper.new) k (after_turn k share.new.history) (loses_in result) }
+        → KeepsEdits F.Keeps keeper.old keeper.new k (after_turn k share.new.history)
+        (loses_in result) }
 {
     let mut steps = Steps::<L>::open(blank);
     let outcome = answer_ask(share, by, ask, &mut steps);
@@ -61,8 +63,10 @@ pub(crate) fn ask_share<L: Ledger, F: Keeps>(
 fn answer_ask<L: Ledger>(share: &mut Share, by: u32, ask: &Ask, steps: &mut Steps<L>) -> TurnOutcome
     requires valid { IsValidWant ask.now.want }
     ensures grows { Grows share.old by share.new }
-    ensures looked { (k : Known) → k.number ≡ by → Finds k share.old → IsTurnOutcome k (after_turn k share.new.history) ask.now result }
-    ensures added { HasAdded (has_added result) share.old.history by ask.now.want share.new.history }
+    ensures looked { (k : Known) → k.number ≡ by → Finds k share.old
+        → IsTurnOutcome k (after_turn k share.new.history) ask.now result }
+    ensures added { HasAdded (has_added result) share.old.history by ask.now.want
+        share.new.history }
     ensures goes_on { loses_in result ≡ false }
 {
     let answer = share.answer(by, ask, steps);

@@ -8,7 +8,7 @@ ghost use Rattle.share_lock.specs.Passes.{lock_id, known, IsReady};
 ghost use Rattle.share_core.specs.Wants.{is_free};
 ghost use Rattle.share_server.specs.Passes.{Serves};
 ghost use Rattle.share_server.specs.Answering.{IsTurnOutcome, loses_in};
-ghost use Rattle.share_server.specs.Kept.{IsReadyFor, Keeping, edits_wanted};
+ghost use Rattle.share_server.specs.Kept.{IsReadyFor, KeepsEdits, edits_wanted};
 
 use crate::turns::keeping::{ask_share, turn_outcome};
 use crate::turns::outcome::TurnOutcome;
@@ -37,7 +37,8 @@ pub(crate) fn turn<F: Keeps, R: Wait>(
     requires going { F.is_lost keeper.old ≡ false }
     ensures ready { IsReady (lock_id lock.now) pass.new }
     ensures looked { IsTurnOutcome (known pass.old) (known pass.new) ask.now result }
-    ensures keeping { Keeping (F.keeps keeper.old) (F.keeps keeper.new) (F.is_lost keeper.new) (F.faults keeper.old) (F.faults keeper.new) (known pass.old) (known pass.new) (loses_in result) }
+    ensures keeping { KeepsEdits F.Keeps keeper.old keeper.new (known pass.old) (known pass.new)
+        (loses_in result) }
 {
     match ready_for(alloc, keeper, &ask.want) {
         Ok(ready) => answer_in_turn(rt, lock, pass, keeper, ask, ready),
@@ -80,7 +81,8 @@ fn answer_in_turn<F: Keeps, R: Wait>(
     requires going { F.is_lost keeper.old ≡ false }
     ensures ready { IsReady (lock_id lock.now) pass.new }
     ensures looked { IsTurnOutcome (known pass.old) (known pass.new) ask.now result }
-    ensures keeping { Keeping (F.keeps keeper.old) (F.keeps keeper.new) (F.is_lost keeper.new) (F.faults keeper.old) (F.faults keeper.new) (known pass.old) (known pass.new) (loses_in result) }
+    ensures keeping { KeepsEdits F.Keeps keeper.old keeper.new (known pass.old) (known pass.new)
+        (loses_in result) }
 {
     let by = pass.number();
     let mut turn = lock.take(rt, pass);
@@ -93,7 +95,8 @@ fn answer_in_turn<F: Keeps, R: Wait>(
 fn fail_in_turn<R: Wait>(rt: &R, lock: &ShareLock<Share>, pass: &mut Pass<Share>) -> TurnOutcome
     requires ready { IsReady (lock_id lock.now) pass.old }
     ensures ready { IsReady (lock_id lock.now) pass.new }
-    ensures looked { (ask : AskSeen) → is_free ask.want ≡ false → IsTurnOutcome (known pass.old) (known pass.new) ask result }
+    ensures looked { (ask : AskSeen) → is_free ask.want ≡ false
+        → IsTurnOutcome (known pass.old) (known pass.new) ask result }
     ensures quiet { Serves (known pass.old) (known pass.new) [] [] }
     ensures goes_on { loses_in result ≡ false }
 {

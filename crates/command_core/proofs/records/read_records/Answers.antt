@@ -1,5 +1,5 @@
 use Rattle.std.proofs.Common.{◌≢◌, List, ℕ, Ok, Err, sym, subst, ap}
-use Rattle.daap_outside.specs.declared.reading.ReadError.{ReadError}
+use Rattle.outside_net.specs.declared.reading.ReadError.{ReadError}
 use Rattle.records_import.specs.Table.{table_of}
 use Rattle.records_import.specs.Records.{BatchReads}
 use Rattle.records_import.specs.declared.refusal.RecordError.TheVariants as records

@@ -1,4 +1,4 @@
-use Rattle.std.proofs.Common.{rules, sym, subst}
+use Rattle.std.proofs.Common.{sym, subst}
 use Rattle.command_core.specs.Seen.{Told, input_seen, output_seen, told_beside}
 use Rattle.command_core.specs.Endings.{IsAnswered}
 use Rattle.daapshare_words.specs.Words.{IsLocalRanged}

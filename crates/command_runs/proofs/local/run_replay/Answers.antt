@@ -15,4 +15,4 @@ returns g c =
     let told : Told = told_beside around
     (input_seen (g.I.Source.left c.args.input.now) (g.I.Faulted.faults c.args.input.now)) (input_seen (g.I.Source.left c.replay_script.new.input) (g.I.Faulted.faults c.replay_script.new.input))
     (output_seen (g.W.Sink.taken c.args.output.now) (g.W.Faulted.faults c.args.output.now)) (output_seen (g.W.Sink.taken c.replay_script.new.output) (g.W.Faulted.faults c.replay_script.new.output)) in
-    subst (λ (name : List ℕ). IsAnswered (replay_meaning words.keep name) told c.replay_script.result) c.as_str.ensures (c.replay_script.ensures.answered around)
+    subst (λ (name : List ℕ). IsAnswered (replay_meaning words.keep name) told c.replay_script.result) c.as_str.ensures (c.replay_script.ensures around)

@@ -10,7 +10,7 @@ returns-in-false g c =
     let told : Told = told_beside around
     (input_seen (g.I.Source.left c.args.input.now) (g.I.Faulted.faults c.args.input.now)) (input_seen (g.I.Source.left c.show_tags.new.input) (g.I.Faulted.faults c.show_tags.new.input))
     (output_seen (g.W.Sink.taken c.args.output.now) (g.W.Faulted.faults c.args.output.now)) (output_seen (g.W.Sink.taken c.show_tags.new.output) (g.W.Faulted.faults c.show_tags.new.output)) in
-    subst (λ (b : Bool). IsAnswered (shows b) told c.show_tags.result) (sym c.in-false.is) (c.show_tags.ensures.answered around)
+    subst (λ (b : Bool). IsAnswered (shows b) told c.show_tags.result) (sym c.in-false.is) (c.show_tags.ensures around)
 
 pub returns-in-true : goal.returns-in-true
 returns-in-true g c =

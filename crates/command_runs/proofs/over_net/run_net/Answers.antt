@@ -21,8 +21,8 @@ returns-in-Serve-clause-answered g c =
     let new = c.serve.new.files in
     let files : FilesSeen = files_seen (g.F.Files.asked old) (g.F.Files.contents old) (g.F.Faulted.faults old) in
     let files' : FilesSeen = files_seen (g.F.Files.asked new) (g.F.Files.contents new) (g.F.Faulted.faults new) in
-    let before : NetSeen = net_seen (g.N.Net.asked c.args.net.now) (g.N.Net.written c.args.net.now) (g.N.Net.door_links c.args.net.now) (g.N.Net.next_input c.args.net.now) (g.N.Faulted.faults c.args.net.now) in
-    let after : NetSeen = net_seen (g.N.Net.asked c.serve.new.net) (g.N.Net.written c.serve.new.net) (g.N.Net.door_links c.serve.new.net) (g.N.Net.next_input c.serve.new.net) (g.N.Faulted.faults c.serve.new.net) in
+    let before : NetSeen = net_seen (g.N.Net.asked c.args.net.now) (g.N.Net.written c.args.net.now) (g.N.Net.listener_links c.args.net.now) (g.N.Net.next_input c.args.net.now) (g.N.Faulted.faults c.args.net.now) in
+    let after : NetSeen = net_seen (g.N.Net.asked c.serve.new.net) (g.N.Net.written c.serve.new.net) (g.N.Net.listener_links c.serve.new.net) (g.N.Net.next_input c.serve.new.net) (g.N.Faulted.faults c.serve.new.net) in
     let told : Told = told_in (seen (input_seen (g.I.Source.left c.args.input.now) (g.I.Faulted.faults c.args.input.now)) files before)
     (seen (input_seen (g.I.Source.left c.serve.new.input) (g.I.Faulted.faults c.serve.new.input)) files' after)
     (output_seen (g.W.Sink.taken c.args.output.now) (g.W.Faulted.faults c.args.output.now)) (output_seen (g.W.Sink.taken c.serve.new.output) (g.W.Faulted.faults c.serve.new.output)) in
@@ -33,8 +33,8 @@ returns-in-Serve-clause-answered g c =
 pub returns-in-Edit-clause-answered : goal.returns-in-Edit-clause-answered
 returns-in-Edit-clause-answered g c =
     let files : FilesSeen = files_seen (g.F.Files.asked c.args.files.now) (g.F.Files.contents c.args.files.now) (g.F.Faulted.faults c.args.files.now) in
-    let before : NetSeen = net_seen (g.N.Net.asked c.args.net.now) (g.N.Net.written c.args.net.now) (g.N.Net.door_links c.args.net.now) (g.N.Net.next_input c.args.net.now) (g.N.Faulted.faults c.args.net.now) in
-    let after : NetSeen = net_seen (g.N.Net.asked c.edit_share-ended.new.net) (g.N.Net.written c.edit_share-ended.new.net) (g.N.Net.door_links c.edit_share-ended.new.net) (g.N.Net.next_input c.edit_share-ended.new.net) (g.N.Faulted.faults c.edit_share-ended.new.net) in
+    let before : NetSeen = net_seen (g.N.Net.asked c.args.net.now) (g.N.Net.written c.args.net.now) (g.N.Net.listener_links c.args.net.now) (g.N.Net.next_input c.args.net.now) (g.N.Faulted.faults c.args.net.now) in
+    let after : NetSeen = net_seen (g.N.Net.asked c.edit_share-ended.new.net) (g.N.Net.written c.edit_share-ended.new.net) (g.N.Net.listener_links c.edit_share-ended.new.net) (g.N.Net.next_input c.edit_share-ended.new.net) (g.N.Faulted.faults c.edit_share-ended.new.net) in
     let told : Told = told_in (seen (input_seen (g.I.Source.left c.args.input.now) (g.I.Faulted.faults c.args.input.now)) files before)
     (seen (input_seen (g.I.Source.left c.edit_share-ended.new.input) (g.I.Faulted.faults c.edit_share-ended.new.input)) files after)
     (output_seen (g.W.Sink.taken c.args.output.now) (g.W.Faulted.faults c.args.output.now)) (output_seen (g.W.Sink.taken c.edit_share-ended.new.output) (g.W.Faulted.faults c.edit_share-ended.new.output)) in
@@ -48,8 +48,8 @@ returns-in-Edit-clause-answered g c =
 pub returns-in-Follow-clause-answered : goal.returns-in-Follow-clause-answered
 returns-in-Follow-clause-answered g c =
     let files : FilesSeen = files_seen (g.F.Files.asked c.args.files.now) (g.F.Files.contents c.args.files.now) (g.F.Faulted.faults c.args.files.now) in
-    let before : NetSeen = net_seen (g.N.Net.asked c.args.net.now) (g.N.Net.written c.args.net.now) (g.N.Net.door_links c.args.net.now) (g.N.Net.next_input c.args.net.now) (g.N.Faulted.faults c.args.net.now) in
-    let after : NetSeen = net_seen (g.N.Net.asked c.follow_share-ended.new.net) (g.N.Net.written c.follow_share-ended.new.net) (g.N.Net.door_links c.follow_share-ended.new.net) (g.N.Net.next_input c.follow_share-ended.new.net) (g.N.Faulted.faults c.follow_share-ended.new.net) in
+    let before : NetSeen = net_seen (g.N.Net.asked c.args.net.now) (g.N.Net.written c.args.net.now) (g.N.Net.listener_links c.args.net.now) (g.N.Net.next_input c.args.net.now) (g.N.Faulted.faults c.args.net.now) in
+    let after : NetSeen = net_seen (g.N.Net.asked c.follow_share-ended.new.net) (g.N.Net.written c.follow_share-ended.new.net) (g.N.Net.listener_links c.follow_share-ended.new.net) (g.N.Net.next_input c.follow_share-ended.new.net) (g.N.Faulted.faults c.follow_share-ended.new.net) in
     let told : Told = told_in (seen (input_seen (g.I.Source.left c.args.input.now) (g.I.Faulted.faults c.args.input.now)) files before)
     (seen (input_seen (g.I.Source.left c.args.input.now) (g.I.Faulted.faults c.args.input.now)) files after)
     (output_seen (g.W.Sink.taken c.args.output.now) (g.W.Faulted.faults c.args.output.now)) (output_seen (g.W.Sink.taken c.follow_share-ended.new.output) (g.W.Faulted.faults c.follow_share-ended.new.output)) in
@@ -69,8 +69,8 @@ returns-in-Follow-clause-answered g c =
 pub returns-in-Relay-clause-answered : goal.returns-in-Relay-clause-answered
 returns-in-Relay-clause-answered g c =
     let files : FilesSeen = files_seen (g.F.Files.asked c.args.files.now) (g.F.Files.contents c.args.files.now) (g.F.Faulted.faults c.args.files.now) in
-    let before : NetSeen = net_seen (g.N.Net.asked c.args.net.now) (g.N.Net.written c.args.net.now) (g.N.Net.door_links c.args.net.now) (g.N.Net.next_input c.args.net.now) (g.N.Faulted.faults c.args.net.now) in
-    let after : NetSeen = net_seen (g.N.Net.asked c.relay.new.net) (g.N.Net.written c.relay.new.net) (g.N.Net.door_links c.relay.new.net) (g.N.Net.next_input c.relay.new.net) (g.N.Faulted.faults c.relay.new.net) in
+    let before : NetSeen = net_seen (g.N.Net.asked c.args.net.now) (g.N.Net.written c.args.net.now) (g.N.Net.listener_links c.args.net.now) (g.N.Net.next_input c.args.net.now) (g.N.Faulted.faults c.args.net.now) in
+    let after : NetSeen = net_seen (g.N.Net.asked c.relay.new.net) (g.N.Net.written c.relay.new.net) (g.N.Net.listener_links c.relay.new.net) (g.N.Net.next_input c.relay.new.net) (g.N.Faulted.faults c.relay.new.net) in
     let input = input_seen (g.I.Source.left c.args.input.now) (g.I.Faulted.faults c.args.input.now) in
     let output = output_seen (g.W.Sink.taken c.args.output.now) (g.W.Faulted.faults c.args.output.now) in
     let output' = output_seen (g.W.Sink.taken c.relay.new.output) (g.W.Faulted.faults c.relay.new.output) in

@@ -1,5 +1,5 @@
 use Rattle.std.proofs.Common.{Err, sym, subst, ap}
-use Rattle.daap_outside.specs.declared.reading.ReadError.{ReadError}
+use Rattle.outside_net.specs.declared.reading.ReadError.{ReadError}
 use Rattle.command_core.specs.Seen.{InputSeen}
 use Rattle.json_commands.specs.Json.{StopsJson}
 use Rattle.json_commands.proofs.Stopping.{json_unread}

@@ -11,15 +11,15 @@ pub returns-in-Ok-clause-answered : goal.returns-in-Ok-clause-answered
 returns-in-Ok-clause-answered g c =
     let host = c.args.place.now in
     let old = c.args.net.now in
-    let new = c.hang_up.new.self in
+    let new = c.close.new.self in
     let link : LinkSeen = link_seen (g.N.L.Sink.taken c.in-Ok.link) (g.N.L.Source.left c.in-Ok.link) (g.N.L.Sink.taken c.sent-answer.new.link) (g.N.L.Faulted.faults c.sent-answer.new.link) in
-    let before : NetSeen = net_seen (g.N.Net.asked old) (g.N.Net.written old) (g.N.Net.door_links old) (g.N.Net.next_input old) (g.N.Faulted.faults old) in
-    let after : NetSeen = net_seen (g.N.Net.asked new) (g.N.Net.written new) (g.N.Net.door_links new) (g.N.Net.next_input new) (g.N.Faulted.faults new) in
+    let before : NetSeen = net_seen (g.N.Net.asked old) (g.N.Net.written old) (g.N.Net.listener_links old) (g.N.Net.next_input old) (g.N.Faulted.faults old) in
+    let after : NetSeen = net_seen (g.N.Net.asked new) (g.N.Net.written new) (g.N.Net.listener_links new) (g.N.Net.next_input new) (g.N.Faulted.faults new) in
     let made : HasLinked host before after link =
     linked host (g.N.Net.asked old) (g.N.Net.asked c.connect.new.self) (g.N.Net.asked new) (g.N.Net.written old) (g.N.Net.written c.connect.new.self) (g.N.Net.written new)
-    (g.N.Net.door_links old) (g.N.Net.door_links c.connect.new.self) (g.N.Net.door_links new) (g.N.Net.next_input old) (g.N.Net.next_input new) (g.N.Faulted.faults old)
-    (g.N.Faulted.faults c.connect.new.self) (g.N.Faulted.faults new) link c.connect.ensures.asks c.hang_up.ensures.asked_stays c.in-Ok.ensures.unwritten c.in-Ok.ensures.input
-    c.connect.ensures.written_stays c.hang_up.ensures.written_grows c.connect.ensures.links_stay c.hang_up.ensures.links_stay c.in-Ok.ensures.count c.hang_up.ensures.count in
+    (g.N.Net.listener_links old) (g.N.Net.listener_links c.connect.new.self) (g.N.Net.listener_links new) (g.N.Net.next_input old) (g.N.Net.next_input new) (g.N.Faulted.faults old)
+    (g.N.Faulted.faults c.connect.new.self) (g.N.Faulted.faults new) link c.connect.ensures.asks c.close.ensures.asked_stays c.in-Ok.ensures.unwritten c.in-Ok.ensures.input
+    c.connect.ensures.written_stays c.close.ensures.written_grows c.connect.ensures.links_stay c.close.ensures.links_stay c.in-Ok.ensures.count c.close.ensures.count in
     λ files.
     let told : Told = told_over files (input_seen (g.I.Source.left c.args.input.now) (g.I.Faulted.faults c.args.input.now))
     (input_seen (g.I.Source.left c.sent-answer.new.input) (g.I.Faulted.faults c.sent-answer.new.input)) before after
@@ -34,8 +34,8 @@ returns-in-Err-clause-answered g c =
     let new = c.connect.new.self in
     let input : InputSeen = input_seen (g.I.Source.left c.args.input.now) (g.I.Faulted.faults c.args.input.now) in
     λ files.
-    let told : Told = told_over files input input (net_seen (g.N.Net.asked old) (g.N.Net.written old) (g.N.Net.door_links old) (g.N.Net.next_input old) (g.N.Faulted.faults old))
-    (net_seen (g.N.Net.asked new) (g.N.Net.written new) (g.N.Net.door_links new) (g.N.Net.next_input new) (g.N.Faulted.faults new))
+    let told : Told = told_over files input input (net_seen (g.N.Net.asked old) (g.N.Net.written old) (g.N.Net.listener_links old) (g.N.Net.next_input old) (g.N.Faulted.faults old))
+    (net_seen (g.N.Net.asked new) (g.N.Net.written new) (g.N.Net.listener_links new) (g.N.Net.next_input new) (g.N.Faulted.faults new))
     (output_seen (g.W.Sink.taken c.args.output.now) (g.W.Faulted.faults c.args.output.now)) (output_seen (g.W.Sink.taken c.write_error.new.output) (g.W.Faulted.faults c.write_error.new.output)) in
     edit_unlinked c.args.place.now c.args.stop told c.write_error.result (record { left = refl; faults = refl })
-    (record { asked = c.connect.ensures.asks; written = c.connect.ensures.written_stays; doors = c.connect.ensures.links_stay; rose = c.in-Err.ensures.count }) c.write_error.ensures
+    (record { asked = c.connect.ensures.asks; written = c.connect.ensures.written_stays; listeners = c.connect.ensures.links_stay; rose = c.in-Err.ensures.count }) c.write_error.ensures

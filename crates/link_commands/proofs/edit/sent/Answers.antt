@@ -1,5 +1,5 @@
 use Rattle.std.proofs.Common.{Err, refl, ap, sym, subst}
-use Rattle.daap_outside.specs.declared.reading.ReadError.{ReadError}
+use Rattle.outside_net.specs.declared.reading.ReadError.{ReadError}
 use Rattle.command_core.specs.declared.fault.Fault.{Fault}
 use Rattle.command_core.specs.Seen.{InputSeen, input_seen}
 use Rattle.link_commands.specs.declared.edit.EditFault.{EditFault}

@@ -20,10 +20,10 @@ loop-round-init g c =
       walks =
           subst (λ (k : Known). Walks c.args.follower.now.host c.args.mirror.now c.args.rounds (Asking c.args.follower.now.known [])
           (place (g.K.Sink.taken c.args.link.now) (g.K.Source.left c.args.link.now) c.args.follower.now.ahead) (Holding k (w.0 ∷ []))
-          (place (g.K.Sink.taken c.listed.new.link) (g.K.Source.left c.listed.new.link) c.listed.new.follower.ahead)) (sym c.listed.ensures.stays.1) w.3;
-      host = c.listed.ensures.stays.0;
-      calls = omega (arith, c.listed.ensures.calls, c.requires.uncalled);
-      query = c.listed.ensures.query;
+          (place (g.K.Sink.taken c.fetch_next.new.link) (g.K.Source.left c.fetch_next.new.link) c.fetch_next.new.follower.ahead)) (sym c.fetch_next.ensures.stays.1) w.3;
+      host = c.fetch_next.ensures.stays.0;
+      calls = omega (arith, c.fetch_next.ensures.calls, c.requires.uncalled);
+      query = c.fetch_next.ensures.query;
       faultless = c.in-Ok.ensures.count;
     }
 

@@ -5,9 +5,9 @@ use Rattle.mirror_client.proofs.ExchangeFacts.{unexpected_stops, unwritten}
 use Rattle.mirror_client.proofs.PushFacts.{asked_as, stopped_as}
 use Rattle.mirror_client.proofs.pushing.push_edit.Goals as goal
 
-pub returns-in-Ok-edited-clause-pushed : goal.returns-in-Ok-edited-clause-pushed
+pub returns-in-Ok-edit_outcome-clause-pushed : goal.returns-in-Ok-edit_outcome-clause-pushed
 unfolding push_text
-returns-in-Ok-edited-clause-pushed g c = (
+returns-in-Ok-edit_outcome-clause-pushed g c = (
   (c.in-Ok.status, c.in-Ok.text),
   place (g.K.Sink.taken c.exchange.new.link) (g.K.Source.left c.exchange.new.link) c.exchange.new.incoming,
   asked_as c.as_slice.result.now (push_text (Some c.args.records.now) c.args.host.now)
@@ -15,7 +15,7 @@ returns-in-Ok-edited-clause-pushed g c = (
       (place (g.K.Sink.taken c.exchange.new.link) (g.K.Source.left c.exchange.new.link) c.exchange.new.incoming)
       (c.in-Ok.status, c.in-Ok.text) (c.as_slice.ensures ∙ c.in_ok-request.ensures) c.new-incoming.ensures c.in-Ok.ensures.exchanged,
   refl,
-  c.in-Ok-edited.ensures,
+  c.in-Ok-edit_outcome.ensures,
 )
 
 pub returns-in-Ok-clause-stops : goal.returns-in-Ok-clause-stops
@@ -23,12 +23,12 @@ unfolding push_text
 returns-in-Ok-clause-stops g c =
     unexpected_stops (push_text (Some c.args.records.now) c.args.host.now) UnexpectedEdit (place (g.K.Sink.taken c.args.link.now) (g.K.Source.left c.args.link.now) nothing_read)
     (place (g.K.Sink.taken c.exchange.new.link) (g.K.Source.left c.exchange.new.link) c.exchange.new.incoming)
-    (c.in-Ok.status, c.in-Ok.text) c.in-Err-edited.error
+    (c.in-Ok.status, c.in-Ok.text) c.in-Err-edit_outcome.error
     (asked_as c.as_slice.result.now (push_text (Some c.args.records.now) c.args.host.now)
     (g.K.Sink.taken c.args.link.now) (g.K.Source.left c.args.link.now) c.new-incoming.result
     (place (g.K.Sink.taken c.exchange.new.link) (g.K.Source.left c.exchange.new.link) c.exchange.new.incoming)
     (c.in-Ok.status, c.in-Ok.text) (c.as_slice.ensures ∙ c.in_ok-request.ensures) c.new-incoming.ensures c.in-Ok.ensures.exchanged)
-    (subst (λ (n : ℕ). UnexpectedEdit n (c.in-Ok.status, c.in-Ok.text) c.in-Err-edited.error) c.used.ensures c.in-Err-edited.ensures)
+    (subst (λ (n : ℕ). UnexpectedEdit n (c.in-Ok.status, c.in-Ok.text) c.in-Err-edit_outcome.error) c.used_count.ensures c.in-Err-edit_outcome.ensures)
 
 pub returns-clause-stops : goal.returns-clause-stops
 unfolding push_text

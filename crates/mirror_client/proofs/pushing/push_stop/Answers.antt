@@ -15,7 +15,7 @@ returns-in-Ok-clause-pushed g c = (
       (place (g.K.Sink.taken c.exchange.new.link) (g.K.Source.left c.exchange.new.link) c.exchange.new.incoming)
       (c.in-Ok.status, c.in-Ok.text) (c.as_slice.ensures ∙ c.in_ok-request.ensures) c.new-incoming.ensures c.in-Ok.ensures.exchanged,
   refl,
-  c.stopped.ensures,
+  c.stop_outcome.ensures,
 )
 
 pub returns-clause-stops : goal.returns-clause-stops

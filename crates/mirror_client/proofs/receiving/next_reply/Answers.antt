@@ -13,7 +13,7 @@ returns-in-Ok-false-clause-cause g c =
     let none =
     subst (λ (b : Bool). MatchBool b (c.refill.new.self.unused ≢ []) ((c.refill.new.self.unused ≡ []) × IsAtEnd (g.K.Source.left c.refill.new.source)))
     c.in-Ok-false.field-0-test c.in-Ok-false.ensures.some in
-    let used : c.used.result ≡ c.args.incoming.now.used = c.used.ensures ∙ c.refill.ensures.used ∙ c.loop-incoming.invariant.used in
+    let used : c.used_count.result ≡ c.args.incoming.now.used = c.used_count.ensures ∙ c.refill.ensures.used ∙ c.loop-incoming.invariant.used in
     subst (λ (n : ℕ). IfSome (prepend_known c.args.incoming.now.unused (g.K.Source.left c.args.link.now)) (λ bytes. EndsEarly bytes c.args.incoming.now.used (n + c.held-held.result)))
     (sym used)
     (ended (g.K.Sink.taken c.args.link.now) (prepend_known c.args.incoming.now.unused (g.K.Source.left c.args.link.now)) (g.K.Source.left c.refill.new.source)

@@ -1,6 +1,6 @@
 use Rattle.std.proofs.Common.{List, ℕ, sym, subst}
 use Rattle.std.specs.Io.KnownBytes.{Appends}
-use Rattle.daap_outside.specs.Told.{AppendsPrefix}
+use Rattle.outside_net.specs.Told.{AppendsPrefix}
 use Rattle.command_core.specs.Seen.{OutputSeen, output_seen}
 use Rattle.relay_command.specs.Runs.{TellsRuling}
 use Rattle.relay_command.proofs.Telling.{TellsLines, cut_in, ruled_behind}

@@ -2,7 +2,7 @@ use Rattle.std.proofs.Common.{◌≡◌, ◌+◌, ◌||◌, [], ◌∷◌, ◌++
 use Rattle.std.proofs.lemmas.List.{length-map, map-append}
 use Rattle.std.proofs.lemmas.Simd.{map-map, splat_is_map}
 use Rattle.std.specs.List.{AllByRecursion, flat_map}
-use Rattle.daap_outside.specs.Told.{BeginsEmpty, Grows}
+use Rattle.outside_net.specs.Told.{BeginsEmpty, Grows}
 use Rattle.command_core.specs.Seen.{NetSeen, OutputSeen, net_seen, output_seen}
 use Rattle.item_model.specs.declared.changes.Entry.{Entry}
 use Rattle.link_commands.specs.Linked.{LinkSeen, link_seen, start_of}
@@ -13,7 +13,7 @@ use Rattle.share_lock.specs.Passes.{known, lock_id, passes_of}
 use Rattle.share_server.specs.Passes.{Pass}
 use Rattle.share_workers.specs.declared.worker.WorkerEnd.TheVariants.{AcceptFault}
 use Rattle.share_crew.specs.Crews.{HasJoined}
-use Rattle.share_crew.specs.Doors.{AreNew, CountsShut, HaveLinks, IsNew}
+use Rattle.share_crew.specs.Listeners.{AreNew, CountsShut, HaveLinks, IsNew}
 use Rattle.share_crew.specs.Stints.{IsHistoryOf, IsNumbered, passes_in, returns_of}
 use Rattle.share_crew.specs.Verdicts.{has_end, verdict_of}
 use Rattle.share_crew.proofs.Ending.{wholes_by}
@@ -30,8 +30,8 @@ use Rattle.relay_command.proofs.running.relay_begun.Goals as goal
 
 pub returns-clause-serves : goal.returns-clause-serves
 returns-clause-serves g c = λ start before first front begun opens new wrote.
-    let coming = g.N.D.Door.coming in
-    let written = g.N.D.Door.written in
+    let coming = g.N.D.Listener.coming in
+    let written = g.N.D.Listener.written in
     let faults = g.N.D.Faulted.faults in
     let relaying = c.args.relaying.now in
     let settings = settings_of relaying in
@@ -42,11 +42,11 @@ returns-clause-serves g c = λ start before first front begun opens new wrote.
     let w = c.run_workers-lock.ensures.partner in
     let k0 = known r.1 in
     let k1 = known after.pass in
-    let all_doors : AreNew written faults start.written (map (λ w. w.door) crew ++ r.2 ∷ []) = subst (AreNew written faults start.written) e.doors new in
-    let crew_doors = front_of (IsNew written faults start.written) (map (λ w. w.door) crew) r.2 all_doors in
-    let last_door = last_of_all (IsNew written faults start.written) (map (λ w. w.door) crew) r.2 all_doors in
+    let all_listeners : AreNew written faults start.written (map (λ w. w.listener) crew ++ r.2 ∷ []) = subst (AreNew written faults start.written) e.listeners new in
+    let crew_listeners = front_of (IsNew written faults start.written) (map (λ w. w.listener) crew) r.2 all_listeners in
+    let last_listener = last_of_all (IsNew written faults start.written) (map (λ w. w.listener) crew) r.2 all_listeners in
     let began : known r.0.first ≡ fresh 0 settings [] = e.pass ∙ begun.pass in
-    let all = c.run_workers-lock.ensures.gathered settings [] start.written began crew_doors in
+    let all = c.run_workers-lock.ensures.gathered settings [] start.written began crew_listeners in
     let fresh_pass : k0 ≡ fresh k0.number settings [] = e.relay_pass ∙ ap (λ (p : Pass). fresh k0.number p.settings p.seen) begun.pass in
     let link : LinkSeen = link_seen (g.N.L.Sink.taken c.args.places.link) (g.N.L.Source.left c.args.places.link) (g.N.L.Sink.taken after.link) (g.N.L.Faulted.faults after.link) in
     let stays = relay_stays relaying.upstream relaying.rounds (start_of link) link.taken k0 k1 after.report w.1 in
@@ -57,9 +57,9 @@ returns-clause-serves g c = λ start before first front begun opens new wrote.
     let joined : HasJoined (fresh 0 settings []) (known c.join.new.pass) members =
     join_more (fresh 0 settings []) (known c.run_workers-lock.result.first) (known c.join.new.pass) k1 (passes_in all.crew) all.joined alone c.join.ensures.pass c.join.ensures.first
     c.join.ensures.second c.join.ensures.apart in
-    let doors_count : length crew + 1 ≡ relaying.workers + 1 =
-    sym (length-append (map (λ w. w.door) crew) (r.2 ∷ []) ∙ ap (λ n. n + 1) (length-map crew (λ w. w.door))) ∙ ap length (sym e.doors) ∙ c.requires.doors in
-    let crew_count : length crew ≡ relaying.workers = omega (arith, doors_count) in
+    let listeners_count : length crew + 1 ≡ relaying.workers + 1 =
+    sym (length-append (map (λ w. w.listener) crew) (r.2 ∷ []) ∙ ap (λ n. n + 1) (length-map crew (λ w. w.listener))) ∙ ap length (sym e.listeners) ∙ c.requires.listeners in
+    let crew_count : length crew ≡ relaying.workers = omega (arith, listeners_count) in
     let stint_count : length (passes_in all.crew) ≡ length crew =
     length-map all.crew (λ s. s.pass) ∙ sym (length-map all.crew (λ s. s.role)) ∙ ap length all.roles_are ∙ length-map crew (λ w. w.role) in
     let member_count : length members ≡ relaying.workers + 1 = length-append (passes_in all.crew) (k1 ∷ []) ∙ ap (λ n. n + 1) (stint_count ∙ crew_count) in
@@ -78,8 +78,8 @@ returns-clause-serves g c = λ start before first front begun opens new wrote.
     let ends = map (λ stint. stint.end) all.crew in
     let old = c.args.net.now in
     let n1 = c.run_workers-lock.new.net in
-    let n2 = c.shut.new.self in
-    let n3 = c.hang_up.new.self in
+    let n2 = c.close_listener.new.self in
+    let n3 = c.close.new.self in
     let fault = worse (crew_fault (verdict_of ends)) (end_fault after.report.end) in
     let ruled : c.ruling.result ≡ fault = c.ruling.ensures ∙ ap (λ v. worse (crew_fault v) (end_fault after.report.end)) all.verdict_is in
     let at_line : OutputSeen = output_seen (g.W.Sink.taken c.args.output.now) (g.W.Faulted.faults c.args.output.now) in
@@ -104,21 +104,21 @@ returns-clause-serves g c = λ start before first front begun opens new wrote.
           subst (λ (p : Pass). HasRelayed relaying.upstream relaying.rounds (start_of link) link.taken p k1 after.report)
           (fresh_pass ∙ ap (λ n. fresh n settings []) (sym number)) w.1;
       to_come =
-          subst (HaveLinks start.door_links) (sym all.coming_are)
-          (have_front start.door_links (map (λ w. coming w.door) crew) (coming r.2)
-          (subst (HaveLinks start.door_links)
-          (ap (map coming) e.doors ∙ (map-append coming (map (λ w. w.door) crew) (r.2 ∷ []) ∙ ap (λ l. l ++ coming r.2 ∷ []) (map-map coming (λ w. w.door) crew))) opens.links));
+          subst (HaveLinks start.listener_links) (sym all.coming_are)
+          (have_front start.listener_links (map (λ w. coming w.listener) crew) (coming r.2)
+          (subst (HaveLinks start.listener_links)
+          (ap (map coming) e.listeners ∙ (map-append coming (map (λ w. w.listener) crew) (r.2 ∷ []) ∙ ap (λ l. l ++ coming r.2 ∷ []) (map-map coming (λ w. w.listener) crew))) opens.links));
       asked =
-          subst (λ a. Grows start.asked a (places_of relaying)) (sym (c.hang_up.ensures.asked_stays ∙ (c.shut.ensures.asked_stays ∙ c.run_workers-lock.ensures.asked))) opens.asked;
+          subst (λ a. Grows start.asked a (places_of relaying)) (sym (c.close.ensures.asked_stays ∙ (c.close_listener.ensures.asked_stays ∙ c.run_workers-lock.ensures.asked))) opens.asked;
       written =
           linked_behind start.written (g.N.Net.written n2) (g.N.Net.written n3) (flat_map returns_of all.crew) link.taken link.faults
-          (shut_behind start.written (g.N.Net.written n1) (g.N.Net.written n2) (written after.door) (flat_map returns_of all.crew)
-          (subst (BeginsEmpty start.written) (sym w.3) last_door.unwritten) (all.written_grows opens.written) c.shut.ensures.written_grows)
-          c.hang_up.ensures.written_grows;
+          (shut_behind start.written (g.N.Net.written n1) (g.N.Net.written n2) (written after.listener) (flat_map returns_of all.crew)
+          (subst (BeginsEmpty start.written) (sym w.3) last_listener.unwritten) (all.written_grows opens.written) c.close_listener.ensures.written_grows)
+          c.close.ensures.written_grows;
       counts =
           counts_all (has_end AcceptFault ends) (is_fault after.report.end) start.faults (g.N.Faulted.faults n1) (g.N.Faulted.faults n2) (g.N.Faulted.faults n3)
           (g.N.L.Faulted.faults c.args.places.link) link.faults (subst (λ n. CountsShut n (g.N.Faulted.faults n1) ends) opens.faultless all.counts)
-          (c.shut.ensures.count.faultless (w.4 ∙ last_door.faultless)) opens.fresh w.2 c.hang_up.ensures.count;
+          (c.close_listener.ensures.count.faultless (w.4 ∙ last_listener.faultless)) opens.fresh w.2 c.close.ensures.count;
       at_line = at_line;
       line_written = wrote;
       told = told;
@@ -129,7 +129,7 @@ returns-clause-serves g c = λ start before first front begun opens new wrote.
 
 pub returns-clause-closes : goal.returns-clause-closes
 returns-clause-closes g c =
-    let doors = ap length c.assign_workers-begun.ensures.doors in
-    let crew = length-append (map (λ w. w.door) c.assign_workers-begun.result.0.room.crew.items) (c.assign_workers-begun.result.2 ∷ []) in
-    let count = length-map c.assign_workers-begun.result.0.room.crew.items (λ w. w.door) in
-    omega (arith, doors, crew, count, c.run_workers-lock.ensures.closes, c.shut.ensures.closes, c.hang_up.ensures.closes)
+    let listeners = ap length c.assign_workers-begun.ensures.listeners in
+    let crew = length-append (map (λ w. w.listener) c.assign_workers-begun.result.0.room.crew.items) (c.assign_workers-begun.result.2 ∷ []) in
+    let count = length-map c.assign_workers-begun.result.0.room.crew.items (λ w. w.listener) in
+    omega (arith, listeners, crew, count, c.run_workers-lock.ensures.closes, c.close_listener.ensures.closes, c.close.ensures.closes)

@@ -1,9 +1,9 @@
 use Rattle.std.proofs.Common.{List, ℕ, sym, subst}
 use Rattle.std.specs.Io.KnownBytes.{Appends}
-use Rattle.daap_outside.specs.Told.{AppendsPrefix}
+use Rattle.outside_net.specs.Told.{AppendsPrefix}
 use Rattle.command_core.specs.Seen.{OutputSeen, output_seen}
 use Rattle.command_core.specs.Answers.{Tells}
-use Rattle.share_crew.specs.Verdicts.{verdict_line, verdict_status, with_memory}
+use Rattle.share_crew.specs.Verdicts.{verdict_line, verdict_status}
 use Rattle.share_crew.proofs.Telling.{told_behind}
 use Rattle.serve_command.proofs.Telling.{TellsLine, told_cut}
 use Rattle.serve_command.proofs.closing.write_end.Goals as goal

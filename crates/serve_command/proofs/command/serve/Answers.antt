@@ -15,7 +15,7 @@ serve_records-requires-clause-readable g c = λ κs bounds. let read = c.in-Ok-r
 pub returns-in-Ok-read_records-clause-ends : goal.returns-in-Ok-read_records-clause-ends
 returns-in-Ok-read_records-clause-ends g c =
     let net = c.args.net.now in
-    let start : NetSeen = net_seen (g.N.Net.asked net) (g.N.Net.written net) (g.N.Net.door_links net) (g.N.Net.next_input net) (g.N.Faulted.faults net) in
+    let start : NetSeen = net_seen (g.N.Net.asked net) (g.N.Net.written net) (g.N.Net.listener_links net) (g.N.Net.next_input net) (g.N.Faulted.faults net) in
     let before : InputSeen = input_seen (g.I.Source.left c.args.input.now) (g.I.Faulted.faults c.args.input.now) in
     let after : InputSeen = input_seen (g.I.Source.left c.read_records.new.input) (g.I.Faulted.faults c.read_records.new.input) in
     c.serve_records.ensures.ends before after start c.in-Ok-read_records.ensures.reads
@@ -25,14 +25,14 @@ returns-in-Ok-read_records-clause-ends g c =
 pub returns-in-Err-read_records-clause-ends : goal.returns-in-Err-read_records-clause-ends
 returns-in-Err-read_records-clause-ends g c =
     let net = c.args.net.now in
-    let start : NetSeen = net_seen (g.N.Net.asked net) (g.N.Net.written net) (g.N.Net.door_links net) (g.N.Net.next_input net) (g.N.Faulted.faults net) in
+    let start : NetSeen = net_seen (g.N.Net.asked net) (g.N.Net.written net) (g.N.Net.listener_links net) (g.N.Net.next_input net) (g.N.Faulted.faults net) in
     let before : InputSeen = input_seen (g.I.Source.left c.args.input.now) (g.I.Faulted.faults c.args.input.now) in
     let after : InputSeen = input_seen (g.I.Source.left c.read_records.new.input) (g.I.Faulted.faults c.read_records.new.input) in
-    let back = c.turned_away.ensures.back start c.in-Ok.ensures.listen c.in-Ok.ensures.edit in
+    let back = c.refuse.ensures.back start c.in-Ok.ensures.listen c.in-Ok.ensures.edit in
     unbegun (asked_still c.args.serving.now start _ _ _ _ _ c.in-Ok.ensures.opened back) (faultless_still c.args.serving.now start _ _ _ _ _ c.in-Ok.ensures.opened back)
     (stopped c.input_fault.result (subst (StopsServing ⊥ before after) (sym c.input_fault.ensures) (unread_cause before after c.in-Err-read_records.fault c.in-Err-read_records.ensures.cause))
-    (λ is. unread_alone (c.args.serving.now.file ≡ None) c.in-Err-read_records.fault (sym c.input_fault.ensures ∙ is)) refl c.turned_away.ensures.told)
-    c.turned_away.ensures.none
+    (λ is. unread_alone (c.args.serving.now.file ≡ None) c.in-Err-read_records.fault (sym c.input_fault.ensures ∙ is)) refl c.refuse.ensures.told)
+    c.refuse.ensures.none
 
 -- an address was not opened
 pub returns-in-Err-clause-ends : goal.returns-in-Err-clause-ends
@@ -40,4 +40,4 @@ returns-in-Err-clause-ends g c =
     let old : OutputSeen = output_seen (g.W.Sink.taken c.args.output.now) (g.W.Faulted.faults c.args.output.now) in
     let new : OutputSeen = output_seen (g.W.Sink.taken c.write_error.new.output) (g.W.Faulted.faults c.write_error.new.output) in
     unopened c.in-Err.stop c.in-Err.ensures.failed (record { left = refl; faults = refl }) refl
-    (subst (TellsStop c.in-Err.stop old new) (sym c.unserved.ensures.status) c.write_error.ensures.told) c.unserved.ensures.none
+    (subst (TellsStop c.in-Err.stop old new) (sym c.no_share.ensures.status) c.write_error.ensures.told) c.no_share.ensures.none

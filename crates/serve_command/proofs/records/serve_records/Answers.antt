@@ -1,7 +1,7 @@
 use Rattle.std.proofs.Common.{◌≡◌, ◌++◌, ◌∷◌, [], List, ℕ, Err, None, Some, IfSome, refl, sym, subst, ap, ◌∙◌}
 use Rattle.std.specs.Prelude.{All}
-use Rattle.daap_outside.specs.Counts.{RisesWith}
-use Rattle.daap_outside.specs.Told.{Grows}
+use Rattle.outside_net.specs.Counts.{RisesWith}
+use Rattle.outside_net.specs.Told.{Grows}
 use Rattle.share_core.specs.Opened.{if_filled}
 use Rattle.share_core.specs.declared.share.OpenError.{OpenError}
 use Rattle.share_history.specs.Histories.{batches}
@@ -28,7 +28,7 @@ pub returns-in-Ok-clause-ends : goal.returns-in-Ok-clause-ends
 returns-in-Ok-clause-ends g c = λ before after start read at.
     let files : FilesSeen = files_seen (g.F.Files.asked c.args.files.now) (g.F.Files.contents c.args.files.now) (g.F.Faulted.faults c.args.files.now) in
     let after_net = c.serve_share.new.net in
-    let now : NetSeen = net_seen (g.N.Net.asked after_net) (g.N.Net.written after_net) (g.N.Net.door_links after_net) (g.N.Net.next_input after_net) (g.N.Faulted.faults after_net) in
+    let now : NetSeen = net_seen (g.N.Net.asked after_net) (g.N.Net.written after_net) (g.N.Net.listener_links after_net) (g.N.Net.next_input after_net) (g.N.Faulted.faults after_net) in
     let old : OutputSeen = output_seen (g.W.Sink.taken c.args.output.now) (g.W.Faulted.faults c.args.output.now) in
     let new : OutputSeen = output_seen (g.W.Sink.taken c.serve_share.new.output) (g.W.Faulted.faults c.serve_share.new.output) in
     let serving = c.args.serving.now in
@@ -42,11 +42,11 @@ returns-in-Ok-clause-ends g c = λ before after start read at.
 
 pub returns-in-Err-clause-ends : goal.returns-in-Err-clause-ends
 returns-in-Err-clause-ends g c = λ before after start read at.
-    let back = c.turned_away.ensures.back start at.new_listen at.new_edit in
+    let back = c.refuse.ensures.back start at.new_listen at.new_edit in
     unbegun (asked_still c.args.serving.now start _ _ _ _ _ at.opened back) (faultless_still c.args.serving.now start _ _ _ _ _ at.opened back)
     (stopped c.open_fault.result (subst (StopsServing ⊥ before after) (sym c.open_fault.ensures)
     (open_cause before after c.args.first c.in-Err.error read (λ is. c.in-Err.ensures.lists (ap (λ (e : OpenError). Err e) is)) (λ is. c.in-Err.ensures.edits (ap (λ (e : OpenError). Err e) is))))
-    (λ is. c.in-None.is) refl c.turned_away.ensures.told) c.turned_away.ensures.none
+    (λ is. c.in-None.is) refl c.refuse.ensures.told) c.refuse.ensures.none
 
 -- ---- a share with a file
 
@@ -57,7 +57,7 @@ serve_kept-outcome-requires-clause-opening g c = λ κs bounds.
 pub returns-in-Ok-open_library-clause-ends : goal.returns-in-Ok-open_library-clause-ends
 returns-in-Ok-open_library-clause-ends g c = λ before after start read at.
     let after_net = c.serve_kept-outcome.new.net in
-    let now : NetSeen = net_seen (g.N.Net.asked after_net) (g.N.Net.written after_net) (g.N.Net.door_links after_net) (g.N.Net.next_input after_net) (g.N.Faulted.faults after_net) in
+    let now : NetSeen = net_seen (g.N.Net.asked after_net) (g.N.Net.written after_net) (g.N.Net.listener_links after_net) (g.N.Net.next_input after_net) (g.N.Faulted.faults after_net) in
     let old : OutputSeen = output_seen (g.W.Sink.taken c.args.output.now) (g.W.Faulted.faults c.args.output.now) in
     let new : OutputSeen = output_seen (g.W.Sink.taken c.serve_kept-outcome.new.output) (g.W.Faulted.faults c.serve_kept-outcome.new.output) in
     let serving = c.args.serving.now in
@@ -96,7 +96,7 @@ returns-in-Err-open_library-clause-ends g c = λ before after start read at.
     let refused = c.in-Err-open_library in
     let path = c.as_str-in-Some.result.now in
     let filed : c.args.serving.now.file ≡ Some path = c.in-Some.is ∙ ap (λ (p : List ℕ). Some p) (sym c.as_str-in-Some.ensures) in
-    let away = c.turned_away-in-Err-open_library.ensures in
+    let away = c.refuse-in-Err-open_library.ensures in
     let back = away.back start at.new_listen at.new_edit in
     unbegun (asked_still c.args.serving.now start _ _ _ _ _ at.opened back) (faultless_still c.args.serving.now start _ _ _ _ _ at.opened back)
     (unkept c.args.first path refused.stop read filed refused.ensures.stops refused.ensures.left refused.ensures.count refused.ensures.asks away.told) away.none

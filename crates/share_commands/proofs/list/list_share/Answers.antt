@@ -17,26 +17,26 @@ returns-in-Err g c =
     (output_seen (g.W.Sink.taken c.args.output.now) (g.W.Faulted.faults c.args.output.now)) (output_seen (g.W.Sink.taken c.write_error.new.output) (g.W.Faulted.faults c.write_error.new.output)) in
     by_refusal (list_meaning query meta c.args.target) (list_sense query meta c.args.target) told c.write_error.result c.in-Err.fault (c.in-Err.ensures.refused c.args.target input) c.write_error.ensures
 
-pub returns-in-Err-opened : goal.returns-in-Err-opened
-returns-in-Err-opened g c =
+pub returns-in-Err-open_checked : goal.returns-in-Err-open_checked
+returns-in-Err-open_checked g c =
     let query = option_copied c.args.query in
     let meta = option_copied c.args.meta in
-    let refused = c.write_error-in-Err-opened in
+    let refused = c.write_error-in-Err-open_checked in
     λ around.
     let told : Told = told_beside around
-    (input_seen (g.I.Source.left c.args.input.now) (g.I.Faulted.faults c.args.input.now)) (input_seen (g.I.Source.left c.opened.new.input) (g.I.Faulted.faults c.opened.new.input))
+    (input_seen (g.I.Source.left c.args.input.now) (g.I.Faulted.faults c.args.input.now)) (input_seen (g.I.Source.left c.open_checked.new.input) (g.I.Faulted.faults c.open_checked.new.input))
     (output_seen (g.W.Sink.taken c.args.output.now) (g.W.Faulted.faults c.args.output.now)) (output_seen (g.W.Sink.taken refused.new.output) (g.W.Faulted.faults refused.new.output)) in
-    by_refusal (list_meaning query meta c.args.target) (list_sense query meta c.args.target) told refused.result c.in-Err-opened.fault
-    (c.in-Err-opened.ensures.cause query meta (c.in-Ok.look, c.in-Ok.ensures.read)) refused.ensures
+    by_refusal (list_meaning query meta c.args.target) (list_sense query meta c.args.target) told refused.result c.in-Err-open_checked.fault
+    (c.in-Err-open_checked.ensures.cause query meta (c.in-Ok.look, c.in-Ok.ensures.read)) refused.ensures
 
 -- a share was opened
-pub returns-in-Ok-opened : goal.returns-in-Ok-opened
-returns-in-Ok-opened g c =
+pub returns-in-Ok-open_checked : goal.returns-in-Ok-open_checked
+returns-in-Ok-open_checked g c =
     let query = option_copied c.args.query in
     let meta = option_copied c.args.meta in
-    let opened = c.in-Ok-opened.ensures.opened in
+    let opened = c.in-Ok-open_checked.ensures.opened in
     λ around.
     let told : Told = told_beside around
-    (input_seen (g.I.Source.left c.args.input.now) (g.I.Faulted.faults c.args.input.now)) (input_seen (g.I.Source.left c.opened.new.input) (g.I.Faulted.faults c.opened.new.input))
-    (output_seen (g.W.Sink.taken c.args.output.now) (g.W.Faulted.faults c.args.output.now)) (output_seen (g.W.Sink.taken c.listed.new.output) (g.W.Faulted.faults c.listed.new.output)) in
-    listed_ends query meta c.args.target told c.listed.result c.in-Ok.look opened.0 c.in-Ok-opened.opened.history c.in-Ok.ensures.read opened.1 (c.listed.ensures.told opened.0 opened.2)
+    (input_seen (g.I.Source.left c.args.input.now) (g.I.Faulted.faults c.args.input.now)) (input_seen (g.I.Source.left c.open_checked.new.input) (g.I.Faulted.faults c.open_checked.new.input))
+    (output_seen (g.W.Sink.taken c.args.output.now) (g.W.Faulted.faults c.args.output.now)) (output_seen (g.W.Sink.taken c.write_listed.new.output) (g.W.Faulted.faults c.write_listed.new.output)) in
+    listed_ends query meta c.args.target told c.write_listed.result c.in-Ok.look opened.0 c.in-Ok-open_checked.opened.history c.in-Ok.ensures.read opened.1 (c.write_listed.ensures.told opened.0 opened.2)

@@ -44,7 +44,7 @@ returns-in-Err-clause-answered g c =
     (output_seen (g.W.Sink.taken a.output.now) (g.W.Faulted.faults a.output.now))
     (output_seen (g.W.Sink.taken c.out_of_memory.new.output) (g.W.Faulted.faults c.out_of_memory.new.output)) in
     by_memory (rehearse_meaning a.number a.batches a.size a.keep) (rehearse_sense a.number a.batches a.size a.keep).sensible told told.output_before c.out_of_memory.result []
-    (Some c.in-Err.broken.history) (record { left = refl; faults = refl })
+    (Some c.in-Err.broken.history) tt (record { left = refl; faults = refl })
     (inr (record { within = few; history = c.in-Err.broken.history; opened = refl; has = c.in-Err.ensures.part })) refl (none_written told.output_before) c.out_of_memory.ensures
 
 -- ---- the share

@@ -1,5 +1,5 @@
 use Rattle.std.proofs.Common.{◌≡◌, List, ℕ, Ok, Err, sym, subst, ap}
-use Rattle.daap_outside.specs.declared.reading.ReadError.{ReadError}
+use Rattle.outside_net.specs.declared.reading.ReadError.{ReadError}
 use Rattle.command_core.specs.Causes.{StopsBy}
 use Rattle.command_core.specs.Seen.{InputSeen, input_seen}
 use Rattle.share_replay.specs.Refusals.{IsRefused}

@@ -18,8 +18,8 @@ gather-requires-clause-room g c =
     omega (arith, count, room)
 
 pub returns-clause-gathered : goal.returns-clause-gathered
-returns-clause-gathered g c = λ settings opening kept start doors.
-    (c.gather.ensures.gathered settings opening kept c.args.begun.room.crew.items start c.requires.hired doors c.work_beside.ensures.served c.work_beside.ensures.roles).0
+returns-clause-gathered g c = λ settings opening kept start listeners.
+    (c.gather.ensures.gathered settings opening kept c.args.begun.room.crew.items start c.requires.hired listeners c.work_beside.ensures.served c.work_beside.ensures.roles).0
 
 pub returns-clause-closes : goal.returns-clause-closes
 returns-clause-closes g c =

@@ -14,9 +14,9 @@ loop-worker-init g c =
     let all : into_iter_items c.into_iter-worker-iterator.result ≡ c.args.crew.items = search rules in record {
       ready = c.requires.first;
       others = subst (All (λ w. IsReady (lock_id c.args.lock.now) w.pass)) (sym all) c.requires.crew;
-      joined = λ settings opening stints zip. subst (λ l. HasJoined (known c.args.first.now) (known c.args.first.now) (passes_in l)) (sym (none_zip (IsOf {settings = settings} {opening = opening} g.N.D.Door.written g.N.D.Faulted.faults) stints zip)) (none_joined (known c.args.first.now));
+      joined = λ settings opening stints zip. subst (λ l. HasJoined (known c.args.first.now) (known c.args.first.now) (passes_in l)) (sym (none_zip (IsOf {settings = settings} {opening = opening} g.N.D.Listener.written g.N.D.Faulted.faults) stints zip)) (none_joined (known c.args.first.now));
       shut = λ settings opening stints zip. subst (HasShut (g.N.Net.written c.args.net.now) (g.N.Net.written c.args.net.now) (g.N.Faulted.faults c.args.net.now) (g.N.Faulted.faults c.args.net.now))
-          (sym (none_zip (IsOf {settings = settings} {opening = opening} g.N.D.Door.written g.N.D.Faulted.faults) stints zip)) (none_shut (g.N.Net.written c.args.net.now) (g.N.Faulted.faults c.args.net.now));
+          (sym (none_zip (IsOf {settings = settings} {opening = opening} g.N.D.Listener.written g.N.D.Faulted.faults) stints zip)) (none_shut (g.N.Net.written c.args.net.now) (g.N.Faulted.faults c.args.net.now));
       asked = refl;
       open_so_far = ap (λ l. g.N.Net.open_count c.args.net.now - length l) all;
       kept = sym (append-nil (map (λ reports. reports.items) c.args.links.now.items));
@@ -32,18 +32,18 @@ loop-worker-preserved g c =
       ready = c.join.ensures.ready;
       others = all_tail (λ w. IsReady (lock_id c.args.lock.now) w.pass) worker _ _ c.in-Some.ensures.steps.0 inv.others;
       joined = λ settings opening stints zip.
-          let parts = last_of (IsOf {settings = settings} {opening = opening} g.N.D.Door.written g.N.D.Faulted.faults) stints c.loop-worker.yielded worker zip in
+          let parts = last_of (IsOf {settings = settings} {opening = opening} g.N.D.Listener.written g.N.D.Faulted.faults) stints c.loop-worker.yielded worker zip in
           subst (λ l. HasJoined (known c.args.first.now) (known c.join.new.pass) (passes_in l)) (sym parts.are)
           (joined_one (known c.args.first.now) (known c.loop-worker.first) (known c.join.new.pass) (known worker.pass) parts.before parts.last (inv.joined settings opening parts.before parts.fits)
           parts.fits_last.pass_is c.join.ensures.pass c.join.ensures.first c.join.ensures.second c.join.ensures.apart);
       shut = λ settings opening stints zip.
-          let parts = last_of (IsOf {settings = settings} {opening = opening} g.N.D.Door.written g.N.D.Faulted.faults) stints c.loop-worker.yielded worker zip in
-          subst (HasShut (g.N.Net.written c.args.net.now) (g.N.Net.written c.shut.new.self) (g.N.Faulted.faults c.args.net.now) (g.N.Faulted.faults c.shut.new.self)) (sym parts.are)
-          (shut_more (g.N.Net.written c.args.net.now) (g.N.Net.written c.loop-worker.net) (g.N.Net.written c.shut.new.self) (g.N.D.Door.written worker.door)
-          (g.N.Faulted.faults c.args.net.now) (g.N.Faulted.faults c.loop-worker.net) (g.N.Faulted.faults c.shut.new.self) (g.N.D.Faulted.faults worker.door) parts.before parts.last
-          (inv.shut settings opening parts.before parts.fits) parts.fits_last.written_is parts.fits_last.faults_are c.shut.ensures.written_grows c.shut.ensures.count);
-      asked = c.shut.ensures.asked_stays ∙ inv.asked;
-      open_so_far = let count = ap length c.in-Some.ensures.steps.0 in let so_far = inv.open_so_far in let closes = c.shut.ensures.closes in omega (arith, count, so_far, closes);
+          let parts = last_of (IsOf {settings = settings} {opening = opening} g.N.D.Listener.written g.N.D.Faulted.faults) stints c.loop-worker.yielded worker zip in
+          subst (HasShut (g.N.Net.written c.args.net.now) (g.N.Net.written c.close_listener.new.self) (g.N.Faulted.faults c.args.net.now) (g.N.Faulted.faults c.close_listener.new.self)) (sym parts.are)
+          (shut_more (g.N.Net.written c.args.net.now) (g.N.Net.written c.loop-worker.net) (g.N.Net.written c.close_listener.new.self) (g.N.D.Listener.written worker.listener)
+          (g.N.Faulted.faults c.args.net.now) (g.N.Faulted.faults c.loop-worker.net) (g.N.Faulted.faults c.close_listener.new.self) (g.N.D.Faulted.faults worker.listener) parts.before parts.last
+          (inv.shut settings opening parts.before parts.fits) parts.fits_last.written_is parts.fits_last.faults_are c.close_listener.ensures.written_grows c.close_listener.ensures.count);
+      asked = c.close_listener.ensures.asked_stays ∙ inv.asked;
+      open_so_far = let count = ap length c.in-Some.ensures.steps.0 in let so_far = inv.open_so_far in let closes = c.close_listener.ensures.closes in omega (arith, count, so_far, closes);
       kept = ap (map (λ reports. reports.items)) c.push_reserved.ensures.items
           ∙ map-append (λ reports. reports.items) c.loop-worker.links.items (worker.reports ∷ [])
           ∙ ap (λ l. l ++ worker.reports.items ∷ []) inv.kept
@@ -64,13 +64,13 @@ pub returns-clause-joined : goal.returns-clause-joined
 returns-clause-joined g c = λ settings opening stints zip.
     let none = nil_from_length _ (sym c.loop-worker.worker-iterator.rest.ok.0 ∙ c.in-None.ensures.steps.0) in
     let all = sym (append-nil c.loop-worker.yielded) ∙ (ap (λ l. c.loop-worker.yielded ++ l) (sym none) ∙ c.loop-worker.invariant.items) in
-    c.loop-worker.invariant.joined settings opening stints (subst (AllZip (IsOf g.N.D.Door.written g.N.D.Faulted.faults) stints) (sym all) zip)
+    c.loop-worker.invariant.joined settings opening stints (subst (AllZip (IsOf g.N.D.Listener.written g.N.D.Faulted.faults) stints) (sym all) zip)
 
 pub returns-clause-shut : goal.returns-clause-shut
 returns-clause-shut g c = λ settings opening stints zip.
     let none = nil_from_length _ (sym c.loop-worker.worker-iterator.rest.ok.0 ∙ c.in-None.ensures.steps.0) in
     let all = sym (append-nil c.loop-worker.yielded) ∙ (ap (λ l. c.loop-worker.yielded ++ l) (sym none) ∙ c.loop-worker.invariant.items) in
-    c.loop-worker.invariant.shut settings opening stints (subst (AllZip (IsOf g.N.D.Door.written g.N.D.Faulted.faults) stints) (sym all) zip)
+    c.loop-worker.invariant.shut settings opening stints (subst (AllZip (IsOf g.N.D.Listener.written g.N.D.Faulted.faults) stints) (sym all) zip)
 
 pub returns-clause-closes : goal.returns-clause-closes
 returns-clause-closes g c =

@@ -13,9 +13,9 @@ abbrev pub invariant-loop-worker : goal.invariant-loop-worker
 invariant-loop-worker g l = record {
   ready : IsReady (lock_id l.lock) l.first;
   others : All (λ w. IsReady (lock_id l.lock) w.pass) (into_iter_items l.worker-iterator);
-  joined : (settings : Settings) (opening : List Entry) (stints : List (Stint settings opening)) → AllZip (IsOf g.N.D.Door.written g.N.D.Faulted.faults) stints l.yielded
+  joined : (settings : Settings) (opening : List Entry) (stints : List (Stint settings opening)) → AllZip (IsOf g.N.D.Listener.written g.N.D.Faulted.faults) stints l.yielded
       → HasJoined (known l.fn.first) (known l.first) (passes_in stints);
-  shut : (settings : Settings) (opening : List Entry) (stints : List (Stint settings opening)) → AllZip (IsOf g.N.D.Door.written g.N.D.Faulted.faults) stints l.yielded
+  shut : (settings : Settings) (opening : List Entry) (stints : List (Stint settings opening)) → AllZip (IsOf g.N.D.Listener.written g.N.D.Faulted.faults) stints l.yielded
       → HasShut (g.N.Net.written l.fn.net) (g.N.Net.written l.net) (g.N.Faulted.faults l.fn.net) (g.N.Faulted.faults l.net) stints;
   asked : g.N.Net.asked l.net ≡ g.N.Net.asked l.fn.net;
   open_so_far : g.N.Net.open_count l.net - length (into_iter_items l.worker-iterator) ≡ g.N.Net.open_count l.fn.net - length l.fn.crew.items;

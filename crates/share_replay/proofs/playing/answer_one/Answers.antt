@@ -1,5 +1,5 @@
 use Rattle.std.proofs.Common.{◌⊎◌, ◌<◌, ◌≤◌, ℕ, List, Option, ◌∙◌}
-use Rattle.share_replay.specs.Machine.{Desk, answers, first_due, most_left, stepped_at}
+use Rattle.share_replay.specs.Machine.{Desk, answers, first_due, most_left, after_answer_at}
 use Rattle.share_replay.specs.Played.{IsAt, IsPart}
 use Rattle.share_replay.proofs.ResultFacts.{on_err_then}
 use Rattle.share_replay.proofs.StepFacts.{part_other, part_there}
@@ -24,7 +24,7 @@ returns-in-Ok-false-clause-part g c =
     let t' = g.W.Sink.taken c.answer_first.new.sink in
     let rest = c.in-Ok-false.ensures.rests c.in-Ok-false.field-0-test in
     on_err_then
-    ((d : Desk) (start : Option (List ℕ)) → IsAt d h1 cs1 start t1 → IsPart d h' start t' ⊎ ((0 < most_left cs1) × IsPart (stepped_at s1 (first_due s1 h1 0 cs1) d) h' start t'))
+    ((d : Desk) (start : Option (List ℕ)) → IsAt d h1 cs1 start t1 → IsPart d h' start t' ⊎ ((0 < most_left cs1) × IsPart (after_answer_at s1 (first_due s1 h1 0 cs1) d) h' start t'))
     ((d : Desk) (start : Option (List ℕ)) → IsAt d h cs start t → (k : ℕ) × (k ≤ most_left cs) × IsPart (answers s c.args.place k d) h' start t')
     c.answer_first.result
     (λ part. part_other s s1 h h1 h' cs cs1 t t1 t' c.args.place c.in-Ok-false.ensures.settings rest.0 rest.1 rest.2 (c.in-Ok-false.ensures.due ∙ c.in-Ok-false.field-0-test) part)

@@ -1,9 +1,9 @@
 use Rattle.std.proofs.Common.{◌≡◌, ◌≤◌, ℕ, List, Option, Some, OnErr, slice_get, take, sym, ap, ◌∙◌, subst}
 use Rattle.std.proofs.lemmas.Option.{slice_get-get_or}
-use Rattle.daap_outside.specs.Told.{AppendsPrefix}
+use Rattle.outside_net.specs.Told.{AppendsPrefix}
 use Rattle.share_replies.specs.Settings.{Settings}
 use Rattle.share_replay.specs.Connections.{Connection}
-use Rattle.share_replay.specs.Machine.{Desk, answers, begun, last_lines, line_place, most_left, script_bytes, script_run}
+use Rattle.share_replay.specs.Machine.{Desk, answers, after_delivery, last_lines, line_place, most_left, script_bytes, script_run}
 use Rattle.share_replay.specs.Played.{IsAt, IsBrokenOff, IsPart}
 use Rattle.share_replay.specs.declared.delivery.Delivery.{Delivery}
 use Rattle.share_replay.proofs.ResultFacts.{on_err_always, on_err_then}
@@ -35,7 +35,7 @@ returns-in-Err-clause-part g c =
     subst (λ (cs : List (Option Connection)). IsAt d l.share.history cs t t1) (sym c.as_mut_slice.ensures.value) l.invariant.at in
     let part = c.in-Err.ensures.part d t at in
     let same =
-    subst (λ (x : Settings). (k : ℕ) × (k ≤ most_left (begun line d).connections) × IsPart (answers x (line_place line) k (begun line d)) now.share.history t t') l.invariant.settings part in
+    subst (λ (x : Settings). (k : ℕ) × (k ≤ most_left (after_delivery line d).connections) × IsPart (answers x (line_place line) k (after_delivery line d)) now.share.history t t') l.invariant.settings part in
     subst (λ (ls : List Delivery). IsBrokenOff s h ls now.share.history t t') c.lines-lines.ensures.lines
     (broken_within s h now.share.history lines l.line-index line t t' is same)
 

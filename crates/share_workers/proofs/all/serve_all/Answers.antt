@@ -3,27 +3,29 @@ use Rattle.std.proofs.lemmas.List.{with_items_is}
 use Rattle.std.proofs.lemmas.List.Elements.{length_all_zip}
 use Rattle.std.specs.List.{AllZip}
 use Rattle.std.specs.Prelude.{All, false}
-use Rattle.share_lock.specs.Passes.{lock_id, known, IsReady}
+use Rattle.outside_net.specs.Bounds.{listeners}
+use Rattle.share_lock.specs.Passes.{lock_id, IsReady}
 use Rattle.share_workers.specs.declared.worker.Worker.{Worker}
-use Rattle.share_workers.specs.Ends.{WorkerServed, is_worker_loss}
+use Rattle.share_workers.specs.Ends.{is_worker_loss}
+use Rattle.share_workers.specs.Workers.{KeepsRole, WorksToEnd}
 use Rattle.share_workers.proofs.all.serve_all.Goals as goal
 
 pub returns-clause-ready : goal.returns-clause-ready
 returns-clause-ready g c =
-    subst (λ (ws : List (Worker g.row.D.Denot)). All (λ (w : Worker g.row.D.Denot). IsReady (lock_id c.args.lock.now) w.pass) ws) (sym (with_items_is c.args.workers.now c.serve_each.new.workers (sym (length_all_zip (λ (old : Worker g.row.D.Denot) (new : Worker g.row.D.Denot). new.role ≡ old.role) c.as_mut_slice.result.now c.serve_each.new.workers c.serve_each.ensures.roles) ∙ c.as_mut_slice.ensures.len))) c.serve_each.ensures.ready
+    subst (λ (ws : List (Worker g.row.D.Denot)). All (λ (w : Worker g.row.D.Denot). IsReady (lock_id c.args.lock.now) w.pass) ws) (sym (with_items_is c.args.workers.now c.serve_each.new.workers (sym (length_all_zip (KeepsRole {D = g.row.D.Denot}) c.as_mut_slice.result.now c.serve_each.new.workers c.serve_each.ensures.roles) ∙ c.as_mut_slice.ensures.len))) c.serve_each.ensures.ready
 
 pub returns-clause-whole : goal.returns-clause-whole
 returns-clause-whole g c =
-    subst (λ (ws : List (Worker g.row.D.Denot)). All (λ (w : Worker g.row.D.Denot). is_worker_loss w.end ≡ false) ws) (sym (with_items_is c.args.workers.now c.serve_each.new.workers (sym (length_all_zip (λ (old : Worker g.row.D.Denot) (new : Worker g.row.D.Denot). new.role ≡ old.role) c.as_mut_slice.result.now c.serve_each.new.workers c.serve_each.ensures.roles) ∙ c.as_mut_slice.ensures.len))) c.serve_each.ensures.whole
+    subst (λ (ws : List (Worker g.row.D.Denot)). All (λ (w : Worker g.row.D.Denot). is_worker_loss w.end ≡ false) ws) (sym (with_items_is c.args.workers.now c.serve_each.new.workers (sym (length_all_zip (KeepsRole {D = g.row.D.Denot}) c.as_mut_slice.result.now c.serve_each.new.workers c.serve_each.ensures.roles) ∙ c.as_mut_slice.ensures.len))) c.serve_each.ensures.whole
 
 pub returns-clause-roles : goal.returns-clause-roles
 returns-clause-roles g c =
-    let R : Worker g.row.D.Denot → Worker g.row.D.Denot → Type 0 = λ old new. new.role ≡ old.role in
-    subst (λ (ws : List (Worker g.row.D.Denot)). AllZip R c.args.workers.now.items ws) (sym (with_items_is c.args.workers.now c.serve_each.new.workers (sym (length_all_zip (λ (old : Worker g.row.D.Denot) (new : Worker g.row.D.Denot). new.role ≡ old.role) c.as_mut_slice.result.now c.serve_each.new.workers c.serve_each.ensures.roles) ∙ c.as_mut_slice.ensures.len)))
+    let R : Worker g.row.D.Denot → Worker g.row.D.Denot → Type 0 = KeepsRole in
+    subst (λ (ws : List (Worker g.row.D.Denot)). AllZip R c.args.workers.now.items ws) (sym (with_items_is c.args.workers.now c.serve_each.new.workers (sym (length_all_zip (KeepsRole {D = g.row.D.Denot}) c.as_mut_slice.result.now c.serve_each.new.workers c.serve_each.ensures.roles) ∙ c.as_mut_slice.ensures.len)))
     (subst (λ (ws : List (Worker g.row.D.Denot)). AllZip R ws c.serve_each.new.workers) c.as_mut_slice.ensures.value c.serve_each.ensures.roles)
 
 pub returns-clause-served : goal.returns-clause-served
 returns-clause-served g c =
-    let R : Worker g.row.D.Denot → Worker g.row.D.Denot → Type 0 = λ old new. WorkerServed old.role (known old.pass) (known new.pass) (g.D.Door.coming old.door) (g.D.Door.coming new.door) (g.D.Door.written old.door) (g.D.Door.written new.door) (g.D.Faulted.faults old.door) (g.D.Faulted.faults new.door) new.reports.items new.end in
-    subst (λ (ws : List (Worker g.row.D.Denot)). AllZip R c.args.workers.now.items ws) (sym (with_items_is c.args.workers.now c.serve_each.new.workers (sym (length_all_zip (λ (old : Worker g.row.D.Denot) (new : Worker g.row.D.Denot). new.role ≡ old.role) c.as_mut_slice.result.now c.serve_each.new.workers c.serve_each.ensures.roles) ∙ c.as_mut_slice.ensures.len)))
+    let R : Worker g.row.D.Denot → Worker g.row.D.Denot → Type 0 = WorksToEnd (listeners g.D.Listener g.D.Faulted) in
+    subst (λ (ws : List (Worker g.row.D.Denot)). AllZip R c.args.workers.now.items ws) (sym (with_items_is c.args.workers.now c.serve_each.new.workers (sym (length_all_zip (KeepsRole {D = g.row.D.Denot}) c.as_mut_slice.result.now c.serve_each.new.workers c.serve_each.ensures.roles) ∙ c.as_mut_slice.ensures.len)))
     (subst (λ (ws : List (Worker g.row.D.Denot)). AllZip R ws c.serve_each.new.workers) c.as_mut_slice.ensures.value c.serve_each.ensures.served)

@@ -2,10 +2,10 @@ use Rattle.std.proofs.Common.{◌≡◌, rules}
 use denote.Exit.{no}
 use denote.Param.{param}
 use denote.Param.Send.{param_send, arg_send}
-use Rattle.share_lock.specs.Passes.{known}
+use Rattle.outside_net.specs.Bounds.{listeners}
 use Rattle.share_workers.specs.contracts.worker.Worker.{the_row as worker_row}
 use Rattle.share_workers.specs.declared.worker.Worker.{Worker}
-use Rattle.share_workers.specs.Ends.{WorkerServed}
+use Rattle.share_workers.specs.Workers.{KeepsRole, WorksToEnd}
 use Rattle.share_workers.proofs.Crossing.{worker_send, borrowed_sync}
 use Rattle.share_workers.proofs.Zipped.{zipped}
 use Rattle.share_workers.proofs.all.serve_each.Goals as goal
@@ -23,12 +23,12 @@ for_each_mut-requires-sync-F g c κs within = record {
 
 pub returns-clause-roles : goal.returns-clause-roles
 returns-clause-roles g c =
-    let R : Worker g.row.D.Denot → Worker g.row.D.Denot → Type 0 = λ old new. new.role ≡ old.role in
+    let R : Worker g.row.D.Denot → Worker g.row.D.Denot → Type 0 = KeepsRole in
     zipped R c.args.workers.now c.for_each_mut.new.s (search rules)
     (λ k d less. let at = (c.for_each_mut.ensures k d less).1 in (at.argument.now, at.after_call.now, at.argument_is, at.left, at.call.1))
 
 pub returns-clause-served : goal.returns-clause-served
 returns-clause-served g c =
-    let R : Worker g.row.D.Denot → Worker g.row.D.Denot → Type 0 = λ old new. WorkerServed old.role (known old.pass) (known new.pass) (g.D.Door.coming old.door) (g.D.Door.coming new.door) (g.D.Door.written old.door) (g.D.Door.written new.door) (g.D.Faulted.faults old.door) (g.D.Faulted.faults new.door) new.reports.items new.end in
+    let R : Worker g.row.D.Denot → Worker g.row.D.Denot → Type 0 = WorksToEnd (listeners g.D.Listener g.D.Faulted) in
     zipped R c.args.workers.now c.for_each_mut.new.s (search rules)
     (λ k d less. let at = (c.for_each_mut.ensures k d less).1 in (at.argument.now, at.after_call.now, at.argument_is, at.left, at.call.2))

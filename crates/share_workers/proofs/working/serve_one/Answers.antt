@@ -1,5 +1,5 @@
 use Rattle.std.proofs.Common.{◌≡◌, length, sym, ap, arith}
-use Rattle.share_workers.proofs.Keepers.{keeping_as, keeping_looked}
+use Rattle.share_workers.proofs.Keepers.{keeping_as, keeping_synced}
 use Rattle.share_workers.proofs.OneMore.{link_within, link_done}
 use Rattle.share_workers.proofs.working.serve_one.Goals as goal
 
@@ -24,9 +24,9 @@ returns-clause-done g c =
       omega arith,
       sym c.is_loss-lost.ensures,
       link_done _ _ _ _ _ _ _ _ _ _ _ _ _ c.keep_link-report.ensures.served c.requires.fresh c.keep_link-report.ensures.count c.done.ensures.written_grows
-          c.look-stopped.ensures.looks,
+          c.sync_turn-stopped.ensures.syncs,
     )
 
 pub returns-clause-keeping : goal.returns-clause-keeping
 returns-clause-keeping g c =
-    keeping_as _ _ _ _ _ _ _ _ _ c.is_loss-lost.ensures (keeping_looked _ _ _ _ _ _ _ _ _ c.keep_link-report.ensures.keeping c.look-stopped.ensures.looks)
+    keeping_as _ _ _ _ _ _ _ _ _ c.is_loss-lost.ensures (keeping_synced _ _ _ _ _ _ _ _ _ c.keep_link-report.ensures.keeping c.sync_turn-stopped.ensures.syncs)

@@ -11,7 +11,7 @@ loop-end-init g c = record {
   ready = c.requires.ready;
   role = refl;
   count = refl;
-  under = begins c.args.worker.now.role (known c.args.worker.now.pass) (g.D.Door.coming c.args.worker.now.door) (g.D.Door.written c.args.worker.now.door) c.args.worker.now.reports.items c.requires.unreported;
+  under = begins c.args.worker.now.role (known c.args.worker.now.pass) (g.D.Listener.coming c.args.worker.now.listener) (g.D.Listener.written c.args.worker.now.listener) c.args.worker.now.reports.items c.requires.unreported;
   keeping = keeping_same _ _ _ _ _ c.requires.going refl;
 }
 
@@ -20,7 +20,7 @@ returns-in-Some-clause-served g c =
     let inv = c.loop-end.invariant in
     ends _ _ _ _ _ _ _ _ _ _ _ _ _ c.in-Some.end c.in-Some.is inv.count c.serve_next.ensures.count
     (next_on _ _ _ _ _ _ _ _ _ _ _ _ _ _ _ _ inv.role
-    (c.serve_next.ensures.served (known c.args.worker.now.pass) (g.D.Door.coming c.args.worker.now.door) (g.D.Door.written c.args.worker.now.door)) inv.under)
+    (c.serve_next.ensures.served (record { pass = known c.args.worker.now.pass; coming = g.D.Listener.coming c.args.worker.now.listener; written = g.D.Listener.written c.args.worker.now.listener })) inv.under)
 
 pub loop-end-preserved : goal.loop-end-preserved
 loop-end-preserved g c =
@@ -30,7 +30,7 @@ loop-end-preserved g c =
       count = count_stays _ _ _ c.in_default.is c.serve_next.ensures.count ∙ inv.count;
       under = goes _ _ _ _ _ _ _ _ _ _ c.in_default.is
           (next_on _ _ _ _ _ _ _ _ _ _ _ _ _ _ _ _ inv.role
-          (c.serve_next.ensures.served (known c.args.worker.now.pass) (g.D.Door.coming c.args.worker.now.door) (g.D.Door.written c.args.worker.now.door)) inv.under);
+          (c.serve_next.ensures.served (record { pass = known c.args.worker.now.pass; coming = g.D.Listener.coming c.args.worker.now.listener; written = g.D.Listener.written c.args.worker.now.listener })) inv.under);
       keeping = keeping_then _ _ _ _ _ _ _ _ _ _ _ _ inv.keeping (keeping_as _ _ _ _ _ _ _ _ _ (sym (ap ends_by_loss c.in_default.is)) c.serve_next.ensures.keeping);
     }
 

@@ -6,10 +6,10 @@ use Rattle.share_workers.proofs.working.work.Given as goal
 
 abbrev pub invariant-loop-end : goal.invariant-loop-end
 invariant-loop-end g l = record {
-  ready : IsReady (lock_id l.service.lock.now) l.worker.pass;
+  ready : IsReady (lock_id l.context.lock.now) l.worker.pass;
   role : l.worker.role ≡ l.fn.worker.role;
-  count : g.D.Faulted.faults l.worker.door ≡ g.D.Faulted.faults l.fn.worker.door;
-  under : Underway l.fn.worker.role (known l.fn.worker.pass) (known l.worker.pass) (g.D.Door.coming l.fn.worker.door) (g.D.Door.coming l.worker.door) (g.D.Door.written l.fn.worker.door) (g.D.Door.written l.worker.door) l.worker.reports.items l.budget;
+  count : g.D.Faulted.faults l.worker.listener ≡ g.D.Faulted.faults l.fn.worker.listener;
+  under : Underway l.fn.worker.role (known l.fn.worker.pass) (known l.worker.pass) (g.D.Listener.coming l.fn.worker.listener) (g.D.Listener.coming l.worker.listener) (g.D.Listener.written l.fn.worker.listener) (g.D.Listener.written l.worker.listener) l.worker.reports.items l.budget;
   keeping : Keeping (g.F.Keeps.keeps l.fn.keeper) (g.F.Keeps.keeps l.keeper) (g.F.Keeps.is_lost l.keeper) (g.F.Keeps.faults l.fn.keeper) (g.F.Keeps.faults l.keeper) (known l.fn.worker.pass) (known l.worker.pass) false;
 }
 

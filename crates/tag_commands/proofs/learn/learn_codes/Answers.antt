@@ -6,7 +6,7 @@ use Rattle.tag_commands.proofs.learn.learn_codes.Goals as goal
 
 pub returns : goal.returns
 returns g c =
-    let answer = c.learned-answer in
+    let answer = c.learn_lines-answer in
     λ around.
     let told : Told = told_beside around
     (input_seen (g.I.Source.left c.args.input.now) (g.I.Faulted.faults c.args.input.now)) (input_seen (g.I.Source.left answer.new.input) (g.I.Faulted.faults answer.new.input))

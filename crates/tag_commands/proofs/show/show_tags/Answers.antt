@@ -1,5 +1,5 @@
 use Rattle.std.proofs.Common.{None, refl, subst}
-use Rattle.command_core.specs.Seen.{Told, InputSeen, OutputSeen, input_seen, output_seen, told_beside}
+use Rattle.command_core.specs.Seen.{Told, OutputSeen, input_seen, output_seen, told_beside}
 use Rattle.command_core.proofs.Ended.{by_done, by_cut, by_fault}
 use Rattle.tag_commands.specs.Show.{show_meaning}
 use Rattle.tag_commands.specs.Showing.{ShowStops}
@@ -8,39 +8,32 @@ use Rattle.tag_commands.proofs.InStep.{step_fault}
 use Rattle.tag_commands.proofs.Senses.{show_sense}
 use Rattle.tag_commands.proofs.show.show_tags.Goals as goal
 
-pub returns-in-Ok-clause-answered : goal.returns-in-Ok-clause-answered
-returns-in-Ok-clause-answered g c =
+pub returns-in-Ok : goal.returns-in-Ok
+returns-in-Ok g c =
     let shown = c.in-Ok.ensures.shown in
     λ around.
     let told : Told = told_beside around
-    (input_seen (g.I.Source.left c.args.input.now) (g.I.Faulted.faults c.args.input.now)) (input_seen (g.I.Source.left c.shown.new.input) (g.I.Faulted.faults c.shown.new.input))
-    (output_seen (g.W.Sink.taken c.args.output.now) (g.W.Faulted.faults c.args.output.now)) (output_seen (g.W.Sink.taken c.shown.new.output) (g.W.Faulted.faults c.shown.new.output)) in
-    by_done show_meaning show_sense told (record { status = 0; history = None }) shown.0 shown.1 refl shown.2
+    (input_seen (g.I.Source.left c.args.input.now) (g.I.Faulted.faults c.args.input.now)) (input_seen (g.I.Source.left c.write_lines.new.input) (g.I.Faulted.faults c.write_lines.new.input))
+    (output_seen (g.W.Sink.taken c.args.output.now) (g.W.Faulted.faults c.args.output.now)) (output_seen (g.W.Sink.taken c.write_lines.new.output) (g.W.Faulted.faults c.write_lines.new.output)) in
+    by_done show_meaning show_sense told (record { status = 0; history = None }) shown.0 c.write_lines.ensures.in_step shown.1 refl shown.2
 
-pub returns-in-Err-Input-clause-answered : goal.returns-in-Err-Input-clause-answered
-returns-in-Err-Input-clause-answered g c =
+pub returns-in-Err-Input : goal.returns-in-Err-Input
+returns-in-Err-Input g c =
     λ around.
     let told : Told = told_beside around
-    (input_seen (g.I.Source.left c.args.input.now) (g.I.Faulted.faults c.args.input.now)) (input_seen (g.I.Source.left c.shown.new.input) (g.I.Faulted.faults c.shown.new.input))
+    (input_seen (g.I.Source.left c.args.input.now) (g.I.Faulted.faults c.args.input.now)) (input_seen (g.I.Source.left c.write_lines.new.input) (g.I.Faulted.faults c.write_lines.new.input))
     (output_seen (g.W.Sink.taken c.args.output.now) (g.W.Faulted.faults c.args.output.now)) (output_seen (g.W.Sink.taken c.write_error.new.output) (g.W.Faulted.faults c.write_error.new.output)) in
-    let mid : OutputSeen = output_seen (g.W.Sink.taken c.shown.new.output) (g.W.Faulted.faults c.shown.new.output) in
+    let mid : OutputSeen = output_seen (g.W.Sink.taken c.write_lines.new.output) (g.W.Faulted.faults c.write_lines.new.output) in
     let stops = subst (ShowStops told.before.input told.after.input told.output_before mid) c.in-Err-Input.field-0-is c.in-Err-Input.ensures.stopped in
-    by_fault show_meaning show_sense told mid c.write_error.result stops.1.0 c.in-Err-Input.fault stops.0 refl stops.1.1 stops.1.2 c.write_error.ensures
+    by_fault show_meaning show_sense told mid c.write_error.result stops.1.0 c.in-Err-Input.fault
+    (step_fault tags_line tags_status c.in-Err-Input.fault told.before.input told.after.input told.output_before mid told.output_after c.write_error.result c.write_lines.ensures.in_step c.write_error.ensures)
+    stops.0 refl stops.1.1 stops.1.2 c.write_error.ensures
 
-pub returns-in-Err-Output-clause-answered : goal.returns-in-Err-Output-clause-answered
-returns-in-Err-Output-clause-answered g c =
+pub returns-in-Err-Output : goal.returns-in-Err-Output
+returns-in-Err-Output g c =
     λ around.
     let told : Told = told_beside around
-    (input_seen (g.I.Source.left c.args.input.now) (g.I.Faulted.faults c.args.input.now)) (input_seen (g.I.Source.left c.shown.new.input) (g.I.Faulted.faults c.shown.new.input))
-    (output_seen (g.W.Sink.taken c.args.output.now) (g.W.Faulted.faults c.args.output.now)) (output_seen (g.W.Sink.taken c.shown.new.output) (g.W.Faulted.faults c.shown.new.output)) in
+    (input_seen (g.I.Source.left c.args.input.now) (g.I.Faulted.faults c.args.input.now)) (input_seen (g.I.Source.left c.write_lines.new.input) (g.I.Faulted.faults c.write_lines.new.input))
+    (output_seen (g.W.Sink.taken c.args.output.now) (g.W.Faulted.faults c.args.output.now)) (output_seen (g.W.Sink.taken c.write_lines.new.output) (g.W.Faulted.faults c.write_lines.new.output)) in
     let stops = subst (ShowStops told.before.input told.after.input told.output_before told.output_after) c.in-Err-Output.field-0-is c.in-Err-Output.ensures.stopped in
-    by_cut show_meaning show_sense told (record { status = 5; history = None }) stops.0 stops.1 refl stops.2
-
-pub returns-in-Err-Input-clause-in_step : goal.returns-in-Err-Input-clause-in_step
-returns-in-Err-Input-clause-in_step g c =
-    let before : InputSeen = input_seen (g.I.Source.left c.args.input.now) (g.I.Faulted.faults c.args.input.now) in
-    let after : InputSeen = input_seen (g.I.Source.left c.shown.new.input) (g.I.Faulted.faults c.shown.new.input) in
-    let output : OutputSeen = output_seen (g.W.Sink.taken c.args.output.now) (g.W.Faulted.faults c.args.output.now) in
-    let mid : OutputSeen = output_seen (g.W.Sink.taken c.shown.new.output) (g.W.Faulted.faults c.shown.new.output) in
-    let output' : OutputSeen = output_seen (g.W.Sink.taken c.write_error.new.output) (g.W.Faulted.faults c.write_error.new.output) in
-    step_fault tags_line tags_status c.in-Err-Input.fault before after output mid output' c.write_error.result c.shown.ensures.in_step c.write_error.ensures
+    by_cut show_meaning show_sense told (record { status = 5; history = None }) stops.0 c.write_lines.ensures.in_step stops.1 refl stops.2

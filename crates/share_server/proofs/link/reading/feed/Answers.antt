@@ -1,6 +1,6 @@
 use Rattle.std.proofs.Common.{ℕ, ◌++◌, List, take, false, ◌∙◌, subst, arith}
 use Rattle.share_lock.specs.Passes.{known}
-use Rattle.share_server.specs.Steps.{Ends, Midway}
+use Rattle.share_server.specs.Progress.{Ends, BytesServed}
 use Rattle.share_server.specs.Losses.{is_loss}
 use Rattle.share_server.proofs.Losing.{keeping_then}
 use Rattle.share_server.proofs.Stepping.{front_behind, rest_behind}
@@ -11,11 +11,11 @@ loop-done-preserved g c = record {
   within = omega (arith, c.split_at.ensures.back_len, c.in-Ok.ensures.within);
   ready = c.step.ensures.ready;
   idle = c.in-Ok.ensures.idle;
-  fed = λ role bytes k taken midway.
+  fed = λ role bytes start midway.
       subst
-      (λ (b : List ℕ). Midway role b c.args.service.now.limit k (known c.step.new.pass) taken (g.K.Sink.taken c.step.new.link) c.step.new.serving.reader c.step.new.serving.served.items)
+      (λ (b : List ℕ). BytesServed role b c.args.context.now.limit start.pass (known c.step.new.pass) start.taken (g.K.Sink.taken c.step.new.link) c.step.new.progress.reader c.step.new.progress.served.items)
       (front_behind bytes c.args.piece.now c.split_at.result.1.now c.loop-done.done c.in-Ok.taken c.split_at.ensures.back)
-      (c.in-Ok.ensures.steps role (bytes ++ take c.loop-done.done c.args.piece.now) k taken (c.loop-done.invariant.fed role bytes k taken midway));
+      (c.in-Ok.ensures.steps role (bytes ++ take c.loop-done.done c.args.piece.now) start (c.loop-done.invariant.fed role bytes start midway));
   going = c.in-Ok.ensures.keeping.is_lost;
   keeping =
       keeping_then (g.F.Keeps.keeps c.args.keeper.now) (g.F.Keeps.keeps c.loop-done.keeper) (g.F.Keeps.keeps c.step.new.keeper) (g.F.Keeps.is_lost c.loop-done.keeper) (g.F.Keeps.is_lost c.step.new.keeper)
@@ -26,11 +26,11 @@ loop-done-preserved g c = record {
 }
 
 pub returns-in-Err-clause-feeds : goal.returns-in-Err-clause-feeds
-returns-in-Err-clause-feeds g c = λ role bytes k taken midway.
+returns-in-Err-clause-feeds g c = λ role bytes start midway.
     subst
-    (λ (b : List ℕ). Ends role b c.args.service.now.limit k (known c.step.new.pass) taken (g.K.Sink.taken c.step.new.link) c.step.new.serving.served.items c.in-Err.end)
+    (λ (b : List ℕ). Ends role b c.args.context.now.limit start.pass (known c.step.new.pass) start.taken (g.K.Sink.taken c.step.new.link) c.step.new.progress.served.items c.in-Err.end)
     (rest_behind bytes c.args.piece.now c.split_at.result.1.now c.loop-done.done c.split_at.ensures.back)
-    (c.in-Err.ensures.steps role (bytes ++ take c.loop-done.done c.args.piece.now) k taken (c.loop-done.invariant.fed role bytes k taken midway))
+    (c.in-Err.ensures.steps role (bytes ++ take c.loop-done.done c.args.piece.now) start (c.loop-done.invariant.fed role bytes start midway))
 
 pub returns-in-Err-clause-keeping : goal.returns-in-Err-clause-keeping
 returns-in-Err-clause-keeping g c =

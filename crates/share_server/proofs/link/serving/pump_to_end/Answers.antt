@@ -10,7 +10,7 @@ pub loop-init : goal.loop-init
 loop-init g c = record {
   ready = c.requires.ready;
   idle = c.requires.idle;
-  under = λ role k left taken under. under;
+  under = λ role start under. under;
   going = c.requires.going;
   keeping =
       keeping_yet (g.F.Keeps.keeps c.args.keeper.now) (g.F.Keeps.is_lost c.args.keeper.now) (g.F.Keeps.faults c.args.keeper.now) (known c.args.pass.now)
@@ -24,7 +24,7 @@ loop-preserved g c =
     record {
       ready = c.pump.ensures.ready;
       idle = c.in-None-pump.ensures.idle refl;
-      under = λ role k left taken under. c.in-None-pump.ensures.pumps role k left taken (inv.under role k left taken under);
+      under = λ role start under. c.in-None-pump.ensures.pumps role start (inv.under role start under);
       going = c.in-None-pump.ensures.keeping.is_lost;
       keeping =
           keeping_then (g.F.Keeps.keeps c.args.keeper.now) (g.F.Keeps.keeps c.loop.keeper) (g.F.Keeps.keeps c.pump.new.keeper) (g.F.Keeps.is_lost c.loop.keeper)
@@ -34,8 +34,8 @@ loop-preserved g c =
     }
 
 pub returns-in-Some-pump-clause-ended : goal.returns-in-Some-pump-clause-ended
-returns-in-Some-pump-clause-ended g c = λ role k left taken under.
-    c.in-Some-pump.ensures.pumps role k left taken (c.loop.invariant.under role k left taken under)
+returns-in-Some-pump-clause-ended g c = λ role start under.
+    c.in-Some-pump.ensures.pumps role start (c.loop.invariant.under role start under)
 
 pub returns-in-Some-pump-clause-count : goal.returns-in-Some-pump-clause-count
 returns-in-Some-pump-clause-count g c =

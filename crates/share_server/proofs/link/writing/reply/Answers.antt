@@ -6,6 +6,6 @@ use Rattle.share_server.proofs.link.writing.reply.Goals as goal
 pub returns-in-None-clause-written : goal.returns-in-None-clause-written
 returns-in-None-clause-written g c =
     subst
-    (λ (o : Option ReplyContent). WasWritten (said_bytes o (is_some c.args.due)) c.args.added c.args.due (g.K.Sink.taken c.args.link.now) (g.K.Sink.taken c.failure.new.link) c.failure.result)
+    (λ (o : Option ReplyContent). WasWritten (said_bytes o (is_some c.args.due)) c.args.added c.args.due (g.K.Sink.taken c.args.link.now) (g.K.Sink.taken c.write_500.new.link) c.write_500.result)
     (sym c.in-None.is)
-    (c.failure.ensures.written c.args.added)
+    (c.write_500.ensures.written c.args.added)

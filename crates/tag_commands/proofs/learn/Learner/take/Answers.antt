@@ -21,9 +21,9 @@ returns-in-Ok-2-clause-stopped c =
     let piece = c.args.piece.now in
     λ fed h.
     let bytes : c.as_slice-in-Ok-2.result.now ≡ fed ++ piece = c.as_slice-in-Ok-2.ensures.value ∙ c.in_ok-extend_from_slice.ensures.items ∙ ap (λ l. l ++ piece) h.bytes in
-    all_stop (fed ++ piece) c.judged.result
+    all_stop (fed ++ piece) c.table_in.result
     (λ e is. absurd (unbroken (fed ++ piece) c.feed.new.self.reader c.feed.new.self.tops e (c.in-Ok-2.ensures.fed fed h.counted).counted is))
-    (subst (λ (l : List ℕ). IfErr c.judged.result (IsRefusal l)) bytes c.judged.ensures.refused)
+    (subst (λ (l : List ℕ). IfErr c.table_in.result (IsRefusal l)) bytes c.table_in.ensures.refused)
 
 pub returns-in-Err : goal.returns-in-Err
 returns-in-Err c =
@@ -33,11 +33,11 @@ returns-in-Err c =
       took = λ fed h.
           let bytes : c.as_slice-in-Err.result.now ≡ fed ++ piece = c.as_slice-in-Err.ensures.value ∙ c.in_ok-extend_from_slice.ensures.items ∙ ap (λ l. l ++ piece) h.bytes in
           let broke : (walked (fed ++ piece)).ending ≡ broken c.in-Err.field-0 = ap (λ l. (walked l).ending) (sym (append-nil (fed ++ piece))) ∙ c.in-Err.ensures.stopped fed h.counted known [] in
-          told_broken _ (fed ++ piece) c.judged-in-Err.result (λ begun. begun.sound c.in-Err.field-0 broke)
-          (subst (λ (l : List ℕ). IfOk c.judged-in-Err.result (λ learned. MatchOption learned (IsUnfinished l) (λ rows. IsReply rows l))) bytes c.judged-in-Err.ensures.told);
+          told_broken _ (fed ++ piece) c.table_in-in-Err.result (λ begun. begun.sound c.in-Err.field-0 broke)
+          (subst (λ (l : List ℕ). IfOk c.table_in-in-Err.result (λ learned. MatchOption learned (IsUnfinished l) (λ rows. IsReply rows l))) bytes c.table_in-in-Err.ensures.told);
       stopped = λ fed h.
           let bytes : c.as_slice-in-Err.result.now ≡ fed ++ piece = c.as_slice-in-Err.ensures.value ∙ c.in_ok-extend_from_slice.ensures.items ∙ ap (λ l. l ++ piece) h.bytes in
-          all_stop (fed ++ piece) c.judged-in-Err.result
+          all_stop (fed ++ piece) c.table_in-in-Err.result
           (λ e is. broken_whole (fed ++ piece) c.in-Err.field-0 e (c.in-Err.ensures.stopped fed h.counted) known is)
-          (subst (λ (l : List ℕ). IfErr c.judged-in-Err.result (IsRefusal l)) bytes c.judged-in-Err.ensures.refused);
+          (subst (λ (l : List ℕ). IfErr c.table_in-in-Err.result (IsRefusal l)) bytes c.table_in-in-Err.ensures.refused);
     }

@@ -1,5 +1,5 @@
 use Rattle.std.proofs.Common.{◌++◌, IfOk, IfErr, length, ◌≤◌, List, ℕ, refl, subst}
-use Rattle.daap_outside.specs.Told.{AppendsPrefix}
+use Rattle.outside_net.specs.Told.{AppendsPrefix}
 use Rattle.std.specs.Io.KnownBytes.{Appends}
 use Rattle.tag_commands.specs.TopTags.{tags_limit}
 use Rattle.tag_commands.specs.Showing.{IsShowing, StopsShowing}

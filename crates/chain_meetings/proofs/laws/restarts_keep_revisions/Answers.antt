@@ -1,0 +1,5 @@
+use Rattle.chain_meetings.proofs.Restarted.{restarts_keep_revisions}
+use Rattle.chain_meetings.proofs.laws.restarts_keep_revisions.Goals as goal
+
+pub returns : goal.returns
+returns c = restarts_keep_revisions

@@ -1,0 +1,4 @@
+pub mod Orders
+pub mod Chains
+pub mod Restarts
+pub mod Sequels

@@ -1,0 +1,54 @@
+-- What two runs of the program that met on a connection have to do with each other. The premises are what is told: the
+-- runs, and the bytes of the connection.
+use Rattle.std.specs.Prelude.{◌≡◌, List, false, Some}
+use Rattle.item_model.specs.declared.changes.Entry.{Entry}
+use Rattle.command_core.specs.Seen.{Told}
+use Rattle.edit_meetings.specs.Kept.{Acknowledges, IsAllOrNothing, TellsOf}
+use Rattle.share_meetings.specs.Meetings.{Meets}
+use Rattle.share_meetings.specs.Shown.{ShowsAsked}
+use Rattle.daapshare_words.specs.declared.command.Command.TheVariants.{Net}
+use Rattle.daapshare_words.specs.declared.command.NetCommand.TheVariants.{Edit, Follow, Relay, Serve}
+use Rattle.daapshare_words.specs.declared.edit.EditWords.{EditWords}
+use Rattle.daapshare_words.specs.declared.follow.FollowWords.{FollowWords}
+use Rattle.daapshare_words.specs.declared.relay.RelayWords.{RelayWords}
+use Rattle.daapshare_words.specs.declared.serve.ServeWords.{ServeWords}
+use Rattle.command_runs.specs.declared.outcome.Outcome.{Outcome}
+use Rattle.command_runs.specs.Table.{IsRun, target_of}
+
+-- A run of `serve` and a run of `follow` met on a connection, which may have broken, however each ended. There are
+-- revisions of the one history that the share left, each above the one before, none from before the login on that
+-- connection, at most ROUNDS. What `follow` wrote is the text of these revisions, or a prefix of it if its output failed,
+-- or their lines and then that of an error, perhaps cut. With status 0 it is all of it, for exactly ROUNDS revisions.
+abbrev pub RunsShowTheShare : Type 0
+RunsShowTheShare =
+    (w : ServeWords) (told : Told) (served : Outcome) (history : List Entry) (v : FollowWords) (seen : Told) (followed : Outcome)
+    → IsRun (Some (Net (Serve w))) told served → served.history ≡ Some history → IsRun (Some (Net (Follow v))) seen followed
+    → (meets : Meets told.before.around.net told.after.around.net served.links seen.before.around.net seen.after.around.net)
+    → ShowsAsked w.keep meets.served.report history v.rounds (target_of v.list) v.query v.meta seen.output_before seen.output_after followed.status
+
+-- The same of a run of `relay` and a run of `follow`, by the history of the relay's own share.
+abbrev pub RunsShowTheRelay : Type 0
+RunsShowTheRelay =
+    (w : RelayWords) (told : Told) (relayed : Outcome) (history : List Entry) (v : FollowWords) (seen : Told) (followed : Outcome)
+    → IsRun (Some (Net (Relay w))) told relayed → relayed.history ≡ Some history → IsRun (Some (Net (Follow v))) seen followed
+    → (meets : Meets told.before.around.net told.after.around.net relayed.links seen.before.around.net seen.after.around.net)
+    → ShowsAsked w.keep meets.served.report history v.rounds (target_of v.list) v.query v.meta seen.output_before seen.output_after followed.status
+
+-- A run of `serve` and a run of `edit` met on a connection, which may have broken. If `edit` succeeded, then the history
+-- that the share left has the batch of its input, at the revision that it wrote; or the input has no edits.
+abbrev pub RunsKeepEdits : Type 0
+RunsKeepEdits =
+    (w : ServeWords) (told : Told) (served : Outcome) (history : List Entry) (v : EditWords) (seen : Told) (edited : Outcome)
+    → IsRun (Some (Net (Serve w))) told served → served.history ≡ Some history
+    → IsRun (Some (Net (Edit v))) seen edited → v.stop ≡ false → edited.status ≡ 0
+    → (meets : Meets told.before.around.net told.after.around.net served.links seen.before.around.net seen.after.around.net)
+    → Acknowledges meets.served.report history seen
+
+-- The same however `edit` ended, also for a stop: what it wrote of the share is true, and the answers on the connection
+-- added all of the input's edits, in one batch, or none.
+abbrev pub RunsTellOfEdits : Type 0
+RunsTellOfEdits =
+    (w : ServeWords) (told : Told) (served : Outcome) (history : List Entry) (v : EditWords) (seen : Told) (edited : Outcome)
+    → IsRun (Some (Net (Serve w))) told served → served.history ≡ Some history → IsRun (Some (Net (Edit v))) seen edited
+    → (meets : Meets told.before.around.net told.after.around.net served.links seen.before.around.net seen.after.around.net)
+    → TellsOf v.stop meets.served.report history seen edited.status × IsAllOrNothing v.stop meets.served.report history seen

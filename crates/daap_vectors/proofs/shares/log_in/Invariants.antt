@@ -1,5 +1,0 @@
--- The call uses the counter that is made for it.
-use Rattle.daap_vectors.proofs.shares.log_in.Given as goal
-
-abbrev pub ghosts-answered : goal.ghosts-answered
-ghosts-answered a = record { name = a.blank.name; parts = a.blank.parts }

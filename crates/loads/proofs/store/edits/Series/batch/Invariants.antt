@@ -1,5 +1,0 @@
-use Rattle.item_model.specs.Valid.{AreValid}
-use Rattle.loads.proofs.store.edits.Series.batch.Given as goal
-
-abbrev pub invariant-loop : goal.invariant-loop
-invariant-loop l = AreValid l.edits.items

@@ -1,5 +1,0 @@
-use Rattle.loads.proofs.FirstRows.{AreFirst}
-use Rattle.loads.proofs.store.planning.rows.Given as goal
-
-abbrev pub invariant-loop-id : goal.invariant-loop-id
-invariant-loop-id l = AreFirst l.id l.rows.items

@@ -1,0 +1,12 @@
+use Rattle.std.proofs.Common.{rules}
+use Rattle.outside_net.proofs.memory.sink.MemSinkSink.write.Goals as goal
+
+-- One search proves all clauses of a return. A search for each clause, as without an answer, takes far longer.
+pub returns-then-contains : goal.returns-then-contains
+returns-then-contains c = search rules
+
+pub returns-then-n-eq0 : goal.returns-then-n-eq0
+returns-then-n-eq0 c = search rules
+
+pub returns : goal.returns
+returns c = search rules

@@ -1,0 +1,14 @@
+pub mod Counts
+pub mod Faults
+pub mod Told
+pub mod Places
+pub mod NetCounts
+pub mod Open
+pub mod MemSource
+pub mod MemSink
+pub mod Kept
+pub mod MemLink
+pub mod MemListener
+pub mod MemNet
+pub mod Reading
+pub mod Bounds

@@ -1,6 +1,0 @@
-use Rattle.std.proofs.Common.{◌≡◌, ◌+◌, drop, length}
-use Rattle.share_history.specs.Histories.{batches, revision}
-use Rattle.plain_share.proofs.revisions.revision.Given as goal
-
-abbrev pub invariant-loop-entry : goal.invariant-loop-entry
-invariant-loop-entry l = l.revision + length (batches (drop l.entry-index l.history)) ≡ revision (batches l.history)

@@ -1,3 +1,0 @@
-pub mod AskedMirrors
-pub mod Runs
-pub mod Relays

@@ -1,6 +1,0 @@
-use Rattle.std.specs.Prelude.{All}
-use Rattle.share_lock.specs.Passes.{lock_id, IsReady}
-use Rattle.share_turns.proofs.crew.new_workers.Given as goal
-
-abbrev pub invariant-loop : goal.invariant-loop
-invariant-loop g l = IsReady (lock_id l.lock) l.first × All (λ w. IsReady (lock_id l.lock) w.pass) l.workers.items

@@ -1,5 +1,0 @@
-use Rattle.share_lock.specs.Passes.{lock_id, IsReady}
-use Rattle.share_turns.proofs.rates.idle.Given as goal
-
-abbrev pub invariant-loop : goal.invariant-loop
-invariant-loop g l = IsReady (lock_id l.lock) l.worker.pass
