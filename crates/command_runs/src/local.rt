@@ -54,7 +54,8 @@ fn run_list<I: Source, W: Sink>(
     input: &mut I,
     output: &mut W,
 ) -> Outcome
-    ensures { (around : Around) → IsAnswered (list_meaning words.now.query words.now.meta (target_of words.now.list))
+    ensures { (around : Around) → IsAnswered
+        (list_meaning words.now.query words.now.meta (target_of words.now.list))
         (told_beside around
         (input_of I.Source input.old)
         (input_of I.Source input.new)
@@ -136,7 +137,8 @@ fn run_rehearse<I: Source, W: Sink>(
     output: &mut W,
 ) -> Outcome
     requires { AreRehearseWords words.now }
-    ensures { (around : Around) → IsAnswered (rehearse_meaning words.now.number words.now.batches words.now.size words.now.keep)
+    ensures { (around : Around) → IsAnswered
+        (rehearse_meaning words.now.number words.now.batches words.now.size words.now.keep)
         (told_beside around
         (input_of I.Source input.old)
         (input_of I.Source input.new)

@@ -104,7 +104,8 @@ impl From<clap::Error> for WordsError {
 /// Returns `Usage` if the arguments are not a command's, and `Memory` if an allocation fails.
 pub fn read_words(alloc: Global, words: &[&str]) -> Result<Command, WordsError>
     ensures read { IfOk result (λ c. command_of (texts_of words.now) ≡ Some c) }
-    ensures usage { IfErr result (λ e. e ≡ WordsError.Usage → command_of (texts_of words.now) ≡ None) }
+    ensures usage { IfErr result (λ e. e ≡ WordsError.Usage
+        → command_of (texts_of words.now) ≡ None) }
     ensures ranged { IfOk result IsRanged }
 {
     match words.first() {

@@ -40,7 +40,8 @@ pub(crate) fn read_head<'a>(
     parent: Option<Code>,
     json: &'a Json,
 ) -> Result<Option<Head<'a>>, AllocError>
-    ensures { IfOk result (λ r. MatchOption r (HasNoObject table.now parent (view json.now)) (λ head. IsHead table.now parent (view json.now) head)) }
+    ensures { IfOk result (λ r. MatchOption r (HasNoObject table.now parent (view json.now))
+        (λ head. IsHead table.now parent (view json.now) head)) }
 {
     let Some(object) = object_from(json) else {
         return Ok(None);

@@ -51,7 +51,8 @@ fn hex_digit(n: u8) -> u8
 
 /// Returns the number of a lower-case hex digit.
 fn digit_value(digit: u8) -> Option<u8>
-    ensures { MatchOption result ((n : ℕ) → n < 16 → digit ≡ digit_char n → ⊥) (λ n. (n < 16) × (digit ≡ digit_char n)) }
+    ensures { MatchOption result ((n : ℕ) → n < 16 → digit ≡ digit_char n → ⊥) (λ n. (n < 16)
+        × (digit ≡ digit_char n)) }
 {
     match digit {
         b'0'..=b'9' => Some(digit - b'0'),
@@ -62,7 +63,8 @@ fn digit_value(digit: u8) -> Option<u8>
 
 /// Returns the byte of two lower-case hex digits.
 fn byte_from(high: u8, low: u8) -> Option<u8>
-    ensures { MatchOption result ((b : ℕ) → b < 256 → high ∷ low ∷ [] ≡ hex b → ⊥) (λ b. (b < 256) × (high ∷ low ∷ [] ≡ hex b)) }
+    ensures { MatchOption result ((b : ℕ) → b < 256 → high ∷ low ∷ [] ≡ hex b → ⊥) (λ b. (b < 256)
+        × (high ∷ low ∷ [] ≡ hex b)) }
 {
     let high = digit_value(high)?;
     let low = digit_value(low)?;
@@ -71,7 +73,8 @@ fn byte_from(high: u8, low: u8) -> Option<u8>
 
 /// Returns the byte of the first two hex digits, and the digits after them.
 fn first_byte(digits: &[u8]) -> Option<(u8, &[u8])>
-    ensures { MatchOption result ((b : ℕ) (more : List ℕ) → b < 256 → digits.now ≡ hex b ++ more → ⊥)
+    ensures { MatchOption result ((b : ℕ) (more : List ℕ) → b < 256 → digits.now ≡ hex b ++ more
+        → ⊥)
         (λ r. (r.0 < 256) × (digits.now ≡ hex r.0 ++ r.1.now)) }
 {
     match digits {
@@ -82,7 +85,8 @@ fn first_byte(digits: &[u8]) -> Option<(u8, &[u8])>
 
 /// Returns the bytes of lower-case hex digits.
 pub(crate) fn bytes_from(alloc: Global, digits: &[u8]) -> Result<Option<Vec<u8>>, AllocError>
-    ensures { IfOk result (λ r. MatchOption r ((bytes : List ℕ) → AreBytes bytes → digits.now ≡ flat_map hex bytes → ⊥)
+    ensures { IfOk result (λ r. MatchOption r ((bytes : List ℕ) → AreBytes bytes
+        → digits.now ≡ flat_map hex bytes → ⊥)
         (λ v. AreBytes v.items × (digits.now ≡ flat_map hex v.items))) }
 {
     let mut bytes = Vec::with_capacity(alloc, digits.len() / 2)?;
@@ -112,7 +116,8 @@ pub(crate) fn code_from(text: &str) -> Option<Code>
 /// Returns the code if its characters are from `!` to `~`.
 fn graphic_code(code: Code) -> Option<Code>
     ensures held { IsCode code }
-    ensures shown { result ≡ (if list_all is_ascii_graphic (code_bytes code) then Some code else None) }
+    ensures shown { result ≡ (if list_all is_ascii_graphic (code_bytes code) then Some code
+        else None) }
 {
     if is_graphic(code) { Some(code) } else { None }
 }
@@ -127,7 +132,9 @@ fn is_graphic(code: Code) -> bool
 
 /// Returns the code of eight hex digits, if one of its characters is not from `!` to `~`.
 fn hex_code(digits: &[u8]) -> Option<Code>
-    ensures { MatchOption result ((c : Four) → IsCode c → list_all is_ascii_graphic (code_bytes c) ≡ false → digits.now ≡ flat_map hex (code_bytes c) → ⊥)
+    ensures { MatchOption result ((c : Four) → IsCode c
+        → list_all is_ascii_graphic (code_bytes c) ≡ false
+        → digits.now ≡ flat_map hex (code_bytes c) → ⊥)
         (λ c. IsCode c × ((list_all is_ascii_graphic (code_bytes c) ≡ false) × (digits.now ≡ flat_map hex (code_bytes c)))) }
 {
     let code = four_bytes(digits)?;
@@ -136,7 +143,8 @@ fn hex_code(digits: &[u8]) -> Option<Code>
 
 /// Returns the code of eight hex digits.
 fn four_bytes(digits: &[u8]) -> Option<Code>
-    ensures { MatchOption result ((c : Four) → IsCode c → digits.now ≡ flat_map hex (code_bytes c) → ⊥)
+    ensures { MatchOption result ((c : Four) → IsCode c → digits.now ≡ flat_map hex (code_bytes c)
+        → ⊥)
         (λ c. IsCode c × (digits.now ≡ flat_map hex (code_bytes c))) }
 {
     match digits {

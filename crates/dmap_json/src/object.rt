@@ -17,7 +17,8 @@ pub(crate) struct TagObject<'a> {
 
 /// Returns the members of `json`, or `None` if it does not have exactly those of a tag's object.
 pub(crate) fn object_from(json: &Json) -> Option<TagObject<'_>>
-    ensures { MatchOption result ((code kind : List ℕ) (value : Data) → view json.now ≡ tag_object code kind value → ⊥)
+    ensures { MatchOption result ((code kind : List ℕ) (value : Data)
+        → view json.now ≡ tag_object code kind value → ⊥)
         (λ o. view json.now ≡ tag_object o.code.now o.kind.now (view o.value.now)) }
 {
     let mut members = json.as_object()?.iter();

@@ -57,7 +57,8 @@ pub(crate) fn value_from(
     kind: Kind,
     json: &Json,
 ) -> Result<Option<Value>, AllocError>
-    ensures { IfOk result (λ r. MatchOption r ((v : TagValue) → IsValueOf kind (view json.now) v → ⊥) (λ v. IsValueOf kind (view json.now) v)) }
+    ensures { IfOk result (λ r. MatchOption r ((v : TagValue) → IsValueOf kind (view json.now) v
+        → ⊥) (λ v. IsValueOf kind (view json.now) v)) }
 {
     match kind {
         Kind::U8 => Ok(u8_from(json)),
@@ -78,14 +79,16 @@ pub(crate) fn value_from(
 
 /// Returns a whole number from 0 to 2^64 - 1.
 fn unsigned(json: &Json) -> Option<u64>
-    ensures { MatchOption result ((n : ℕ) → view json.now ≡ number (unsigned n) → ⊥) (λ n. view json.now ≡ number (unsigned n)) }
+    ensures { MatchOption result ((n : ℕ) → view json.now ≡ number (unsigned n) → ⊥)
+        (λ n. view json.now ≡ number (unsigned n)) }
 {
     json.as_u64()
 }
 
 /// Returns a whole number that fits 64 bits with a sign.
 fn signed(json: &Json) -> Option<i64>
-    ensures { MatchOption result ((z : ℤ) → FitsSigned w64 z → view json.now ≡ number (of_integer z) → ⊥) (λ z. view json.now ≡ number (of_integer z)) }
+    ensures { MatchOption result ((z : ℤ) → FitsSigned w64 z → view json.now ≡ number (of_integer z)
+        → ⊥) (λ z. view json.now ≡ number (of_integer z)) }
 {
     match unsigned(json) {
         Some(n) if n < 9_223_372_036_854_775_808 => Some(n as i64),
@@ -96,7 +99,8 @@ fn signed(json: &Json) -> Option<i64>
 
 /// Returns a whole number below 0 that fits 64 bits with a sign.
 fn negative(json: &Json) -> Option<i64>
-    ensures { MatchOption result ((n : ℕ) → view json.now ≡ number (below_zero (negsuc n)) → ⊥) (λ z. view json.now ≡ number (of_integer z)) }
+    ensures { MatchOption result ((n : ℕ) → view json.now ≡ number (below_zero (negsuc n)) → ⊥)
+        (λ z. view json.now ≡ number (of_integer z)) }
 {
     match json.as_i64() {
         Some(n) if n < 0 => Some(n),
@@ -106,7 +110,8 @@ fn negative(json: &Json) -> Option<i64>
 
 /// Returns a whole number of 32 bits.
 fn u32_from(json: &Json) -> Option<u32>
-    ensures { MatchOption result ((n : ℕ) → n < 2 ^ 32 → view json.now ≡ number (unsigned n) → ⊥) (λ n. (n < 2 ^ 32) × (view json.now ≡ number (unsigned n))) }
+    ensures { MatchOption result ((n : ℕ) → n < 2 ^ 32 → view json.now ≡ number (unsigned n) → ⊥)
+        (λ n. (n < 2 ^ 32) × (view json.now ≡ number (unsigned n))) }
 {
     match unsigned(json) {
         Some(n) if n < 4_294_967_296 => Some(n as u32),
@@ -115,7 +120,8 @@ fn u32_from(json: &Json) -> Option<u32>
 }
 
 fn u8_from(json: &Json) -> Option<Value>
-    ensures { MatchOption result ((v : TagValue) → IsValueOf Kind.U8 (view json.now) v → ⊥) (λ v. IsValueOf Kind.U8 (view json.now) v) }
+    ensures { MatchOption result ((v : TagValue) → IsValueOf Kind.U8 (view json.now) v → ⊥)
+        (λ v. IsValueOf Kind.U8 (view json.now) v) }
 {
     match unsigned(json) {
         Some(n) if n < 256 => Some(Value::U8(n as u8)),
@@ -124,7 +130,8 @@ fn u8_from(json: &Json) -> Option<Value>
 }
 
 fn u16_from(json: &Json) -> Option<Value>
-    ensures { MatchOption result ((v : TagValue) → IsValueOf Kind.U16 (view json.now) v → ⊥) (λ v. IsValueOf Kind.U16 (view json.now) v) }
+    ensures { MatchOption result ((v : TagValue) → IsValueOf Kind.U16 (view json.now) v → ⊥)
+        (λ v. IsValueOf Kind.U16 (view json.now) v) }
 {
     match unsigned(json) {
         Some(n) if n < 65_536 => Some(Value::U16(n as u16)),
@@ -133,31 +140,36 @@ fn u16_from(json: &Json) -> Option<Value>
 }
 
 fn u32_value(json: &Json) -> Option<Value>
-    ensures { MatchOption result ((v : TagValue) → IsValueOf Kind.U32 (view json.now) v → ⊥) (λ v. IsValueOf Kind.U32 (view json.now) v) }
+    ensures { MatchOption result ((v : TagValue) → IsValueOf Kind.U32 (view json.now) v → ⊥)
+        (λ v. IsValueOf Kind.U32 (view json.now) v) }
 {
     Some(Value::U32(u32_from(json)?))
 }
 
 fn u64_from(json: &Json) -> Option<Value>
-    ensures { MatchOption result ((v : TagValue) → IsValueOf Kind.U64 (view json.now) v → ⊥) (λ v. IsValueOf Kind.U64 (view json.now) v) }
+    ensures { MatchOption result ((v : TagValue) → IsValueOf Kind.U64 (view json.now) v → ⊥)
+        (λ v. IsValueOf Kind.U64 (view json.now) v) }
 {
     Some(Value::U64(unsigned(json)?))
 }
 
 fn date_from(json: &Json) -> Option<Value>
-    ensures { MatchOption result ((v : TagValue) → IsValueOf Kind.Date (view json.now) v → ⊥) (λ v. IsValueOf Kind.Date (view json.now) v) }
+    ensures { MatchOption result ((v : TagValue) → IsValueOf Kind.Date (view json.now) v → ⊥)
+        (λ v. IsValueOf Kind.Date (view json.now) v) }
 {
     Some(Value::Date(u32_from(json)?))
 }
 
 fn version_from(json: &Json) -> Option<Value>
-    ensures { MatchOption result ((v : TagValue) → IsValueOf Kind.Version (view json.now) v → ⊥) (λ v. IsValueOf Kind.Version (view json.now) v) }
+    ensures { MatchOption result ((v : TagValue) → IsValueOf Kind.Version (view json.now) v → ⊥)
+        (λ v. IsValueOf Kind.Version (view json.now) v) }
 {
     Some(Value::Version(u32_from(json)?))
 }
 
 fn i8_from(json: &Json) -> Option<Value>
-    ensures { MatchOption result ((v : TagValue) → IsValueOf Kind.I8 (view json.now) v → ⊥) (λ v. IsValueOf Kind.I8 (view json.now) v) }
+    ensures { MatchOption result ((v : TagValue) → IsValueOf Kind.I8 (view json.now) v → ⊥)
+        (λ v. IsValueOf Kind.I8 (view json.now) v) }
 {
     match signed(json) {
         Some(n) if -128 <= n && n < 128 => Some(Value::I8(n as i8)),
@@ -166,7 +178,8 @@ fn i8_from(json: &Json) -> Option<Value>
 }
 
 fn i16_from(json: &Json) -> Option<Value>
-    ensures { MatchOption result ((v : TagValue) → IsValueOf Kind.I16 (view json.now) v → ⊥) (λ v. IsValueOf Kind.I16 (view json.now) v) }
+    ensures { MatchOption result ((v : TagValue) → IsValueOf Kind.I16 (view json.now) v → ⊥)
+        (λ v. IsValueOf Kind.I16 (view json.now) v) }
 {
     match signed(json) {
         Some(n) if -32_768 <= n && n < 32_768 => Some(Value::I16(n as i16)),
@@ -175,7 +188,8 @@ fn i16_from(json: &Json) -> Option<Value>
 }
 
 fn i32_from(json: &Json) -> Option<Value>
-    ensures { MatchOption result ((v : TagValue) → IsValueOf Kind.I32 (view json.now) v → ⊥) (λ v. IsValueOf Kind.I32 (view json.now) v) }
+    ensures { MatchOption result ((v : TagValue) → IsValueOf Kind.I32 (view json.now) v → ⊥)
+        (λ v. IsValueOf Kind.I32 (view json.now) v) }
 {
     match signed(json) {
         Some(n) if -2_147_483_648 <= n && n < 2_147_483_648 => Some(Value::I32(n as i32)),
@@ -184,13 +198,15 @@ fn i32_from(json: &Json) -> Option<Value>
 }
 
 fn i64_from(json: &Json) -> Option<Value>
-    ensures { MatchOption result ((v : TagValue) → IsValueOf Kind.I64 (view json.now) v → ⊥) (λ v. IsValueOf Kind.I64 (view json.now) v) }
+    ensures { MatchOption result ((v : TagValue) → IsValueOf Kind.I64 (view json.now) v → ⊥)
+        (λ v. IsValueOf Kind.I64 (view json.now) v) }
 {
     Some(Value::I64(signed(json)?))
 }
 
 fn text_from(alloc: Global, json: &Json) -> Result<Option<Value>, AllocError>
-    ensures { IfOk result (λ r. MatchOption r ((v : TagValue) → IsValueOf Kind.Text (view json.now) v → ⊥) (λ v. IsValueOf Kind.Text (view json.now) v)) }
+    ensures { IfOk result (λ r. MatchOption r ((v : TagValue)
+        → IsValueOf Kind.Text (view json.now) v → ⊥) (λ v. IsValueOf Kind.Text (view json.now) v)) }
 {
     match json.as_str() {
         Some(text) => Ok(Some(Value::Text(own_text(alloc, text)?))),
@@ -206,7 +222,9 @@ fn own_text(alloc: Global, text: &str) -> Result<Text, AllocError>
 }
 
 fn opaque_from(alloc: Global, json: &Json) -> Result<Option<Value>, AllocError>
-    ensures { IfOk result (λ r. MatchOption r ((v : TagValue) → IsValueOf Kind.Opaque (view json.now) v → ⊥) (λ v. IsValueOf Kind.Opaque (view json.now) v)) }
+    ensures { IfOk result (λ r. MatchOption r ((v : TagValue)
+        → IsValueOf Kind.Opaque (view json.now) v → ⊥)
+        (λ v. IsValueOf Kind.Opaque (view json.now) v)) }
 {
     let Some(digits) = json.as_str() else {
         return Ok(None);

@@ -29,7 +29,8 @@ const MOST_LEVELS: u64 = 32;
 /// object and is not, and `Memory` if an allocation fails.
 pub fn from_json(alloc: Global, text: &str, table: &CodeTable) -> Result<Tag, JsonError>
     ensures read { IfOk result (λ tag. Reads table.now text.now tag) }
-    ensures complete { (t : Tree) → Reads table.now text.now t → MatchResult result (λ tag. tag ≡ t) (λ e. e ≡ JsonError.Memory) }
+    ensures complete { (t : Tree) → Reads table.now text.now t
+        → MatchResult result (λ tag. tag ≡ t) (λ e. e ≡ JsonError.Memory) }
     ensures refused { IfErr result (λ e. Explains table.now text.now e) }
 {
     match Json::from_str(alloc, text) {
@@ -51,8 +52,10 @@ fn read_tag(
 ) -> Result<Tag, JsonError>
     requires { level ≤ 33 }
     ensures read { IfOk result (λ t. IsRead table.now parent level (view json.now) t) }
-    ensures counted { OnOk result (count.new ≡ count.old + length (places level parent (view json.now))) }
-    ensures refused { IfErr result (λ e. Stops table.now count.old (places level parent (view json.now)) e) }
+    ensures counted { OnOk result
+        (count.new ≡ count.old + length (places level parent (view json.now))) }
+    ensures refused { IfErr result
+        (λ e. Stops table.now count.old (places level parent (view json.now)) e) }
 {
     let index = *count;
     *count = index.checked_add(1).ok_or(JsonError::Memory)?;
@@ -75,9 +78,12 @@ fn read_held(
     count: &mut u64,
 ) -> Result<Tag, JsonError>
     requires { level ≤ 32 }
-    ensures read { (parent : Option Four) (d : Data) → IsHead table.now parent d head.entry → IfOk result (λ t. IsRead table.now parent level d t) }
-    ensures counted { (parent : Option Four) (d : Data) → IsHead table.now parent d head.entry → OnOk result (count.new ≡ count.old + length (below level d)) }
-    ensures refused { (parent : Option Four) (d : Data) → IsHead table.now parent d head.entry → IfErr result (λ e. Stops table.now count.old (below level d) e) }
+    ensures read { (parent : Option Four) (d : Data) → IsHead table.now parent d head.entry
+        → IfOk result (λ t. IsRead table.now parent level d t) }
+    ensures counted { (parent : Option Four) (d : Data) → IsHead table.now parent d head.entry
+        → OnOk result (count.new ≡ count.old + length (below level d)) }
+    ensures refused { (parent : Option Four) (d : Data) → IsHead table.now parent d head.entry
+        → IfErr result (λ e. Stops table.now count.old (below level d) e) }
 {
     let Head { code, held } = head;
     match held {
@@ -103,9 +109,12 @@ fn read_tags(
     count: &mut u64,
 ) -> Result<Vec<Tag>, JsonError>
     requires { level ≤ 33 }
-    ensures read { IfOk result (λ tags. AreRead table.now parent level (items_view members.now) (trees_of tags.items)) }
-    ensures counted { OnOk result (count.new ≡ count.old + length (all_below level parent (items_view members.now))) }
-    ensures refused { IfErr result (λ e. Stops table.now count.old (all_below level parent (items_view members.now)) e) }
+    ensures read { IfOk result (λ tags. AreRead table.now parent level (items_view members.now)
+        (trees_of tags.items)) }
+    ensures counted { OnOk result
+        (count.new ≡ count.old + length (all_below level parent (items_view members.now))) }
+    ensures refused { IfErr result
+        (λ e. Stops table.now count.old (all_below level parent (items_view members.now)) e) }
 {
     let mut tags = Vec::with_capacity(alloc, members.len())?;
     for member in members {

@@ -35,7 +35,8 @@ const MOST_LEVELS: u64 = 32;
 pub fn to_json(alloc: Global, tag: &Tag, table: &CodeTable) -> Result<Text, JsonError>
     ensures text { IfOk result (λ text. text ≡ compact_text (json_of tag.now)) }
     ensures reads_back { IfOk result (λ text. Reads table.now text tag.now) }
-    ensures unfit { (result ≡ Err JsonError.Unfit) ↔ ((nat_le (levels tag.now) 32 && fits table.now None tag.now) ≡ false) }
+    ensures unfit { (result ≡ Err JsonError.Unfit)
+        ↔ ((nat_le (levels tag.now) 32 && fits table.now None tag.now) ≡ false) }
     ensures refused { IfErr result (λ e. (e ≡ JsonError.Unfit) ⊎ (e ≡ JsonError.Memory)) }
 {
     if !has_levels(tag, MOST_LEVELS) || !table.fits(None, tag) {
@@ -114,7 +115,8 @@ impl Serialize for SentTag<'_> {
 
 #[cycle(send)]
 fn send_tag<S: Serializer>(alloc: Global, tag: &Tag, out: &mut S) -> Result<(), S::Error>
-    ensures sent { OnOk result (SendsValue (json_of tag.now) (S.written out.old) (S.written out.new)) }
+    ensures sent { OnOk result (SendsValue (json_of tag.now) (S.written out.old)
+        (S.written out.new)) }
     ensures held { OnOk result (IsTag tag.now) }
 {
     out.begin_map(Some(3))?;
@@ -134,7 +136,8 @@ fn send_value<S: Serializer>(
     value: &Value,
     out: &mut S,
 ) -> Result<(), S::Error>
-    ensures sent { OnOk result (SendsValue (json_held (tree_with code value.now)) (S.written out.old) (S.written out.new)) }
+    ensures sent { OnOk result (SendsValue (json_held (tree_with code value.now))
+        (S.written out.old) (S.written out.new)) }
     ensures held { OnOk result (IsCode code → IsTag (tree_with code value.now)) }
 {
     match value {
@@ -162,7 +165,8 @@ fn send_value<S: Serializer>(
 #[cycle(send)]
 #[tactic(auto, using(dmap_tags::proofs::Sizes::member_falls))]
 fn send_tags<S: Serializer>(alloc: Global, tags: &[Tag], out: &mut S) -> Result<(), S::Error>
-    ensures sent { OnOk result (SendsItems (json_items (trees_of tags.now)) (S.written out.old) (S.written out.new)) }
+    ensures sent { OnOk result (SendsItems (json_items (trees_of tags.now)) (S.written out.old)
+        (S.written out.new)) }
     ensures held { OnOk result (AreTags (trees_of tags.now)) }
 {
     for tag in tags {
@@ -201,7 +205,8 @@ fn word(value: &Value) -> &'static str
 
 /// Sends a content code as a text.
 fn send_code<S: Serializer>(alloc: Global, code: Code, out: &mut S) -> Result<(), S::Error>
-    ensures sent { OnOk result (Logs (S.written out.old) (S.written out.new) (text_event (shown_code code))) }
+    ensures sent { OnOk result (Logs (S.written out.old) (S.written out.new)
+        (text_event (shown_code code))) }
     ensures held { OnOk result (IsCode code) }
 {
     match code_text(alloc, code) {
@@ -212,7 +217,8 @@ fn send_code<S: Serializer>(alloc: Global, code: Code, out: &mut S) -> Result<()
 
 /// Sends bytes as a text of hex digits.
 fn send_bytes<S: Serializer>(alloc: Global, bytes: &Bytes, out: &mut S) -> Result<(), S::Error>
-    ensures sent { OnOk result (Logs (S.written out.old) (S.written out.new) (text_event (flat_map hex bytes.now))) }
+    ensures sent { OnOk result (Logs (S.written out.old) (S.written out.new)
+        (text_event (flat_map hex bytes.now))) }
     ensures held { OnOk result (AreBytes bytes.now) }
 {
     match hex_text(alloc, bytes.as_slice()) {

@@ -131,7 +131,8 @@ impl Draft {
     /// Closes lists until no more than `level` are open.
     #[tactic(auto, using(crate::proofs::Zipper::lowered_low))]
     fn lowered(self, level: u64) -> Result<Draft, AllocError>
-        ensures { IfOk result (λ draft. record { around = draft.around; here = draft.here } ≡ lowered level self.around self.here) }
+        ensures { IfOk result (λ draft. record { around = draft.around; here = draft.here }
+            ≡ lowered level self.around self.here) }
     {
         let Draft {
             mut around,
@@ -145,7 +146,8 @@ impl Draft {
 
     /// Adds a tag. A list opens.
     fn with_tag(self, alloc: Global, tag: Tag) -> Result<Draft, AllocError>
-        ensures { IfOk result (λ draft. record { around = draft.around; here = draft.here } ≡ with_tag tag (record { around = self.around; here = self.here })) }
+        ensures { IfOk result (λ draft. record { around = draft.around; here = draft.here }
+            ≡ with_tag tag (record { around = self.around; here = self.here })) }
     {
         let Draft {
             mut around,
@@ -173,7 +175,9 @@ impl Draft {
         level: u64,
         tag: Tag,
     ) -> Result<Option<Draft>, AllocError>
-        ensures { IfOk result (λ draft. option_map (λ d. record { around = d.around; here = d.here }) draft ≡ taken table.now level tag self.around self.here) }
+        ensures { IfOk result (λ draft. option_map
+            (λ d. record { around = d.around; here = d.here }) draft
+            ≡ taken table.now level tag self.around self.here) }
     {
         if level > self.around.len() || level >= MOST_LEVELS {
             return Ok(None);
@@ -182,7 +186,9 @@ impl Draft {
     }
 
     fn fitted(self, alloc: Global, table: &CodeTable, tag: Tag) -> Result<Option<Draft>, AllocError>
-        ensures { IfOk result (λ draft. option_map (λ d. record { around = d.around; here = d.here }) draft ≡ fitted table.now tag (record { around = self.around; here = self.here })) }
+        ensures { IfOk result (λ draft. option_map
+            (λ d. record { around = d.around; here = d.here }) draft
+            ≡ fitted table.now tag (record { around = self.around; here = self.here })) }
     {
         if !table.fits(self.around.parent(), &tag) {
             return Ok(None);

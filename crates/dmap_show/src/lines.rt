@@ -74,7 +74,8 @@ fn push_event(level: u64, event: &Event, out: &mut Vec<u8>) -> Result<(), AllocE
 /// in memory either.
 #[cycle(push_tag)]
 fn push_tag(level: u64, code: Code, value: &Value, out: &mut Vec<u8>) -> Result<(), AllocError>
-    ensures shown { OnOk result (out.new.items ≡ out.old.items ++ shown_tag level (tree_with code value.now)) }
+    ensures shown { OnOk result (out.new.items
+        ≡ out.old.items ++ shown_tag level (tree_with code value.now)) }
     ensures held { OnOk result (IsTag (tree_with code value.now)) }
     ensures text { is_utf8 out.old.items ≡ true → OnOk result (is_utf8 out.new.items ≡ true) }
     ensures front { OnErr result (Begins out.old.items out.new.items) }
@@ -94,7 +95,8 @@ fn push_tag(level: u64, code: Code, value: &Value, out: &mut Vec<u8>) -> Result<
 #[cycle(push_tag)]
 #[tactic(auto, using(dmap_tags::proofs::Sizes::member_falls, dmap_tags::proofs::Fronts::begins_more))]
 fn push_tags(level: u64, tags: &[Tag], out: &mut Vec<u8>) -> Result<(), AllocError>
-    ensures shown { OnOk result (out.new.items ≡ out.old.items ++ shown_tags level (trees_of tags.now)) }
+    ensures shown { OnOk result (out.new.items
+        ≡ out.old.items ++ shown_tags level (trees_of tags.now)) }
     ensures held { OnOk result (AreTags (trees_of tags.now)) }
     ensures text { is_utf8 out.old.items ≡ true → OnOk result (is_utf8 out.new.items ≡ true) }
     ensures front { OnErr result (Begins out.old.items out.new.items) }

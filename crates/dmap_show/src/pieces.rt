@@ -126,7 +126,8 @@ fn signed_number_in(text: &str) -> Option<i64>
 
 /// Returns the byte of two hex digits.
 fn byte_of(high: u8, low: u8) -> u8
-    ensures { (b : ℕ) → b < 256 → high ≡ digit_char (b / 16) → low ≡ digit_char (b % 16) → result ≡ b }
+    ensures { (b : ℕ) → b < 256 → high ≡ digit_char (b / 16) → low ≡ digit_char (b % 16)
+        → result ≡ b }
 {
     hex_value(high)
         .wrapping_mul(16)
@@ -146,7 +147,8 @@ fn hex_value(digit: u8) -> u8
 
 /// Returns the byte of two hex digits at the beginning, and what follows them.
 pub(crate) fn first_hex(bytes: &[u8]) -> Option<(u8, &[u8])>
-    ensures shown { (b : ℕ) (more : List ℕ) → b < 256 → bytes.now ≡ hex b ++ more → IfSome result (λ r. (r.0 ≡ b) × (r.1.now ≡ more)) }
+    ensures shown { (b : ℕ) (more : List ℕ) → b < 256 → bytes.now ≡ hex b ++ more
+        → IfSome result (λ r. (r.0 ≡ b) × (r.1.now ≡ more)) }
     ensures there { (b : ℕ) (more : List ℕ) → bytes.now ≡ hex b ++ more → result ≢ None }
     ensures shorter { IfSome result (λ r. length r.1.now < length bytes.now) }
 {
@@ -158,7 +160,8 @@ pub(crate) fn first_hex(bytes: &[u8]) -> Option<(u8, &[u8])>
 
 /// Returns the first byte of a quoted text, and what follows it.
 pub(crate) fn first_quoted(bytes: &[u8]) -> Option<(u8, &[u8])>
-    ensures shown { (b : ℕ) (more : List ℕ) → b < 256 → bytes.now ≡ escaped b ++ more → IfSome result (λ r. (r.0 ≡ b) × (r.1.now ≡ more)) }
+    ensures shown { (b : ℕ) (more : List ℕ) → b < 256 → bytes.now ≡ escaped b ++ more
+        → IfSome result (λ r. (r.0 ≡ b) × (r.1.now ≡ more)) }
     ensures there { (b : ℕ) (more : List ℕ) → bytes.now ≡ escaped b ++ more → result ≢ None }
     ensures shorter { IfSome result (λ r. length r.1.now < length bytes.now) }
 {
@@ -171,7 +174,8 @@ pub(crate) fn first_quoted(bytes: &[u8]) -> Option<(u8, &[u8])>
 
 /// Returns the byte that is shown after a backslash, and what follows it.
 fn first_escaped(bytes: &[u8]) -> Option<(u8, &[u8])>
-    ensures shown { (b : ℕ) (more : List ℕ) → b < 256 → 92 ∷ bytes.now ≡ escaped b ++ more → IfSome result (λ r. (r.0 ≡ b) × (r.1.now ≡ more)) }
+    ensures shown { (b : ℕ) (more : List ℕ) → b < 256 → 92 ∷ bytes.now ≡ escaped b ++ more
+        → IfSome result (λ r. (r.0 ≡ b) × (r.1.now ≡ more)) }
     ensures there { (b : ℕ) (more : List ℕ) → 92 ∷ bytes.now ≡ escaped b ++ more → result ≢ None }
     ensures shorter { IfSome result (λ r. length r.1.now < length bytes.now) }
 {

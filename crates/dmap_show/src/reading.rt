@@ -41,7 +41,8 @@ impl From<AllocError> for ShowError {
 /// Returns the tags whose lines `text` is. They fit the table and have at most 32 levels.
 pub fn read_show(alloc: Global, text: &str, table: &CodeTable) -> Result<Tags, ShowError>
     ensures read { IfOk result (λ tags. Shows table.now text.now tags) }
-    ensures complete { (ts : List Tree) → Shows table.now text.now ts → MatchResult result (λ tags. tags ≡ ts) (λ e. e ≡ ShowError.Memory) }
+    ensures complete { (ts : List Tree) → Shows table.now text.now ts
+        → MatchResult result (λ tags. tags ≡ ts) (λ e. e ≡ ShowError.Memory) }
     ensures refused { IfErr result (λ e. Explains table.now text.now e) }
 {
     let draft = read_lines(alloc, text.as_bytes(), table)?;
@@ -50,7 +51,8 @@ pub fn read_show(alloc: Global, text: &str, table: &CodeTable) -> Result<Tags, S
 
 /// Returns the draft after all lines.
 fn read_lines(alloc: Global, text: &[u8], table: &CodeTable) -> Result<Draft, ShowError>
-    ensures { MatchResult result (λ draft. Follows table.now text.now draft.around draft.here) (λ e. Explains table.now text.now e) }
+    ensures { MatchResult result (λ draft. Follows table.now text.now draft.around draft.here)
+        (λ e. Explains table.now text.now e) }
 {
     let mut draft = Draft::new(alloc);
     let mut left = text;
@@ -76,7 +78,9 @@ fn take_line(
     draft: Draft,
     bare: &[u8],
 ) -> Result<Option<Draft>, AllocError>
-    ensures took { IfOk result (λ d. IfSome d (λ d. Took table.now draft.around draft.here bare.now (record { around = d.around; here = d.here }))) }
+    ensures took { IfOk result (λ d. IfSome d
+        (λ d. Took table.now draft.around draft.here bare.now
+        (record { around = d.around; here = d.here }))) }
     ensures only { (level : ℕ) (t : Tree) → IsHead t → bare.now ≡ bare_line level t
         → IfOk result (λ d. option_map (λ d. record { around = d.around; here = d.here }) d ≡ taken table.now level (head_of t) draft.around draft.here) }
 {

@@ -25,8 +25,12 @@ pub(crate) struct Row {
 
 /// Returns what a line shows, if it is a shown line. A guess counts only if it is shown as that line.
 pub(crate) fn read_row(alloc: Global, bare: &[u8]) -> Result<Option<Row>, AllocError>
-    ensures row { IfOk result (λ r. IfSome r (λ row. (bare.now ≡ bare_line row.level (tree_with row.code row.value)) × (IsCode row.code × IsHeadValue row.value))) }
-    ensures only { (level : ℕ) (t : Tree) → IsHead t → bare.now ≡ bare_line level t → IfOk result (λ r. r ≡ Some (record { level = level; code = tree_code t; value = head_value t })) }
+    ensures row { IfOk result (λ r. IfSome r
+        (λ row. (bare.now ≡ bare_line row.level (tree_with row.code row.value))
+        × (IsCode row.code × IsHeadValue row.value))) }
+    ensures only { (level : ℕ) (t : Tree) → IsHead t → bare.now ≡ bare_line level t
+        → IfOk result (λ r. r ≡ Some
+        (record { level = level; code = tree_code t; value = head_value t })) }
 {
     let Some(row) = guess(alloc, bare)? else {
         return Ok(None);
@@ -40,7 +44,8 @@ pub(crate) fn read_row(alloc: Global, bare: &[u8]) -> Result<Option<Row>, AllocE
 
 /// Returns whether a row is shown as that line.
 fn is_shown(alloc: Global, row: &Row, bare: &[u8]) -> Result<bool, AllocError>
-    ensures { IfOk result (λ r. Decides r (shown_line row.now.level (tree_with row.now.code row.now.value) ≡ bare.now ++ 10 ∷ [])) }
+    ensures { IfOk result (λ r. Decides r
+        (shown_line row.now.level (tree_with row.now.code row.now.value) ≡ bare.now ++ 10 ∷ [])) }
 {
     let mut line = Vec::from_slice(alloc, bare)?;
     line.push(b'\n')?;
@@ -52,7 +57,9 @@ fn is_shown(alloc: Global, row: &Row, bare: &[u8]) -> Result<bool, AllocError>
 /// Returns what a line may show.
 fn guess(alloc: Global, bare: &[u8]) -> Result<Option<Row>, AllocError>
     ensures held { IfOk result (λ r. IfSome r (λ row. IsCode row.code × IsHeadValue row.value)) }
-    ensures only { (level : ℕ) (t : Tree) → IsHead t → bare.now ≡ bare_line level t → IfOk result (λ r. r ≡ Some (record { level = level; code = tree_code t; value = head_value t })) }
+    ensures only { (level : ℕ) (t : Tree) → IsHead t → bare.now ≡ bare_line level t
+        → IfOk result (λ r. r ≡ Some
+        (record { level = level; code = tree_code t; value = head_value t })) }
 {
     let (level, line) = split_indent(bare);
     let (code, rest) = split_at_byte(line, b' ');
@@ -69,7 +76,9 @@ fn guess_by(
     text: &[u8],
 ) -> Result<Option<Row>, AllocError>
     ensures held { IfOk result (λ r. IfSome r (λ row. IsCode row.code × IsHeadValue row.value)) }
-    ensures only { (c : Four) (v : Value) → IsCode c → code.now ≡ shown_code c → Spells (kind_named word.now) text.now v → IfOk result (λ r. r ≡ Some (record { level = level; code = c; value = v })) }
+    ensures only { (c : Four) (v : Value) → IsCode c → code.now ≡ shown_code c
+        → Spells (kind_named word.now) text.now v
+        → IfOk result (λ r. r ≡ Some (record { level = level; code = c; value = v })) }
 {
     let Some(code) = read_code(code) else {
         return Ok(None);

@@ -26,7 +26,8 @@ pub(crate) fn read_value(
     word: &[u8],
     text: &[u8],
 ) -> Result<Option<Value>, AllocError>
-    ensures only { (v : Value) → Spells (kind_named word.now) text.now v → IfOk result (λ r. r ≡ Some v) }
+    ensures only { (v : Value) → Spells (kind_named word.now) text.now v
+        → IfOk result (λ r. r ≡ Some v) }
     ensures held { IfOk result (λ r. IfSome r IsHeadValue) }
 {
     let kind = kind_named(word);
@@ -124,7 +125,8 @@ fn version_of(text: &[u8]) -> Option<u32>
 }
 
 fn version_by(major: &[u8], minor: &[u8], patch: &[u8]) -> Option<u32>
-    ensures { (n : ℕ) → n < 2 ^ 32 → major.now ≡ decimal (n / 65536) → minor.now ≡ decimal (n / 256 % 256) → patch.now ≡ decimal (n % 256) → result ≡ Some n }
+    ensures { (n : ℕ) → n < 2 ^ 32 → major.now ≡ decimal (n / 65536)
+        → minor.now ≡ decimal (n / 256 % 256) → patch.now ≡ decimal (n % 256) → result ≡ Some n }
 {
     let major = u32::from(u16_of(major)?);
     let minor = u32::from(u8_of(minor)?);
@@ -134,7 +136,8 @@ fn version_by(major: &[u8], minor: &[u8], patch: &[u8]) -> Option<u32>
 
 /// Returns the first byte that is shown, and what follows it.
 fn first(form: Form, bytes: &[u8]) -> Option<(u8, &[u8])>
-    ensures shown { (b : ℕ) (more : List ℕ) → b < 256 → bytes.now ≡ piece form b ++ more → IfSome result (λ r. (r.0 ≡ b) × (r.1.now ≡ more)) }
+    ensures shown { (b : ℕ) (more : List ℕ) → b < 256 → bytes.now ≡ piece form b ++ more
+        → IfSome result (λ r. (r.0 ≡ b) × (r.1.now ≡ more)) }
     ensures there { (b : ℕ) (more : List ℕ) → bytes.now ≡ piece form b ++ more → result ≢ None }
     ensures shorter { IfSome result (λ r. length r.1.now < length bytes.now) }
 {
@@ -146,7 +149,8 @@ fn first(form: Form, bytes: &[u8]) -> Option<(u8, &[u8])>
 
 /// Returns the bytes that are shown so.
 fn unshown(alloc: Global, form: Form, shown: &[u8]) -> Result<Vec<u8>, AllocError>
-    ensures { (bytes : List ℕ) → AreBytes bytes → shown.now ≡ flat_map (piece form) bytes → IfOk result (λ v. v.items ≡ bytes) }
+    ensures { (bytes : List ℕ) → AreBytes bytes → shown.now ≡ flat_map (piece form) bytes
+        → IfOk result (λ v. v.items ≡ bytes) }
 {
     let mut bytes = Vec::new(alloc);
     let mut left = shown;

@@ -17,7 +17,8 @@ use std::alloc::AllocError;
 /// Returns the word of a value's kind with the spaces around it. No space follows that of a list.
 #[inline(always)]
 fn word(value: &Value) -> &'static str
-    ensures { (c : Four) → result.now ≡ 32 ∷ word_of (tree_with c value.now) ++ space_of (tree_with c value.now) }
+    ensures { (c : Four) → result.now
+        ≡ 32 ∷ word_of (tree_with c value.now) ++ space_of (tree_with c value.now) }
 {
     match value {
         Value::U8(_) => " u8 ",
@@ -72,7 +73,8 @@ fn push_part(n: u64, out: &mut Vec<u8>) -> Result<(), AllocError>
 /// Appends a tag's value as its line has it: nothing for a list.
 #[inline(always)]
 fn push_value(value: &Value, out: &mut Vec<u8>) -> Result<(), AllocError>
-    ensures shown { (c : Four) → OnOk result (out.new.items ≡ out.old.items ++ text_of (tree_with c value.now)) }
+    ensures shown { (c : Four) → OnOk result
+        (out.new.items ≡ out.old.items ++ text_of (tree_with c value.now)) }
     ensures held { (c : Four) → HasValue (tree_with c value.now) }
     ensures text { is_utf8 out.old.items ≡ true → OnOk result (is_utf8 out.new.items ≡ true) }
     ensures front { OnErr result (Begins out.old.items out.new.items) }
@@ -97,7 +99,8 @@ fn push_value(value: &Value, out: &mut Vec<u8>) -> Result<(), AllocError>
 /// Appends what follows the word of a value's kind.
 #[inline(always)]
 fn push_rest(value: &Value, out: &mut Vec<u8>) -> Result<(), AllocError>
-    ensures shown { (c : Four) → OnOk result (out.new.items ≡ out.old.items ++ (text_of (tree_with c value.now) ++ 10 ∷ [])) }
+    ensures shown { (c : Four) → OnOk result
+        (out.new.items ≡ out.old.items ++ (text_of (tree_with c value.now) ++ 10 ∷ [])) }
     ensures held { (c : Four) → OnOk result (HasValue (tree_with c value.now)) }
     ensures text { is_utf8 out.old.items ≡ true → OnOk result (is_utf8 out.new.items ≡ true) }
     ensures front { OnErr result (Begins out.old.items out.new.items) }
@@ -114,7 +117,8 @@ pub(crate) fn push_front(
     word: &str,
     out: &mut Vec<u8>,
 ) -> Result<(), AllocError>
-    ensures shown { OnOk result (out.new.items ≡ out.old.items ++ (indent level ++ shown_code code ++ word.now)) }
+    ensures shown { OnOk result (out.new.items
+        ≡ out.old.items ++ (indent level ++ shown_code code ++ word.now)) }
     ensures held { OnOk result (IsCode code) }
     ensures text { is_utf8 out.old.items ≡ true → OnOk result (is_utf8 out.new.items ≡ true) }
     ensures front { OnErr result (Begins out.old.items out.new.items) }
@@ -131,7 +135,8 @@ pub(crate) fn push_line(
     value: &Value,
     out: &mut Vec<u8>,
 ) -> Result<(), AllocError>
-    ensures shown { OnOk result (out.new.items ≡ out.old.items ++ shown_line level (tree_with code value.now)) }
+    ensures shown { OnOk result (out.new.items
+        ≡ out.old.items ++ shown_line level (tree_with code value.now)) }
     ensures held { OnOk result (IsCode code × HasValue (tree_with code value.now)) }
     ensures text { is_utf8 out.old.items ≡ true → OnOk result (is_utf8 out.new.items ≡ true) }
     ensures front { OnErr result (Begins out.old.items out.new.items) }

@@ -20,14 +20,16 @@ pub fn a_tag_in_front_is_read()
 
 /// The events of bytes that are accepted tags are those of the tags, and the bytes end between two tags.
 pub fn tags_are_read()
-    ensures { (rows : List CodeRow) (limit : ℕ) (ts : List Tree) → limit < 2 ^ 32 → AreAccepted rows limit ts
+    ensures { (rows : List CodeRow) (limit : ℕ) (ts : List Tree) → limit < 2 ^ 32
+        → AreAccepted rows limit ts
         → walk_of rows limit (spellings (trees_of ts))
         ≡ record { events = events_of_all 0 (trees_of ts) []; ending = between } }
 {}
 
 /// Bytes that end between two top tags are accepted tags, one after another.
 pub fn sound_bytes_are_tags()
-    ensures { (rows : List CodeRow) (limit : ℕ) (bytes : List ℕ) → AllByRecursion (λ b. b < 256) bytes
+    ensures { (rows : List CodeRow) (limit : ℕ) (bytes : List ℕ)
+        → AllByRecursion (λ b. b < 256) bytes
         → (walk_of rows limit bytes).ending ≡ between
         → (ts : List Tree) × (bytes ≡ spellings (trees_of ts)) × AreAccepted rows limit ts }
 {}

@@ -70,7 +70,8 @@ impl Position {
         requires quiet { ready_at self.old ≡ [] }
         requires due { is_due self.old ≡ true }
         requires counted { bytes_taken self.old + length piece.now < 2 ^ 64 }
-        ensures takes { Takes table.now top (resumed table.now top self.old) piece.now self.new result }
+        ensures takes { Takes table.now top
+            (resumed table.now top self.old) piece.now self.new result }
         ensures count { IfOk result (λ n. bytes_taken self.new ≡ bytes_taken self.old + n) }
     {
         let phase = self.phase;
@@ -93,7 +94,9 @@ impl Position {
         requires empty { self.old.part ≡ [] }
         requires there { 8 ≤ length piece.now }
         requires counted { self.old.start + length piece.now < 2 ^ 64 }
-        ensures takes { Takes table.now top (at_head (walk_from table.now top) table.now top self.old.start self.old.around) piece.now self.new result }
+        ensures takes { Takes table.now top
+            (at_head (walk_from table.now top) table.now top self.old.start self.old.around)
+            piece.now self.new result }
         ensures count { IfOk result (λ n. bytes_taken self.new ≡ self.old.start + n) }
     {
         let (head, rest) = piece.split_at(8);
@@ -113,7 +116,8 @@ impl Position {
         ensures takes { Takes table.now top
             (λ rest. at_head (walk_from table.now top) table.now top self.old.start self.old.around (self.old.part ++ rest))
             piece.now self.new result }
-        ensures count { IfOk result (λ n. bytes_taken self.new ≡ self.old.start + length self.old.part + n) }
+        ensures count { IfOk result (λ n. bytes_taken self.new
+            ≡ self.old.start + length self.old.part + n) }
     {
         let taken = self.part.fill(8, piece)?;
         if self.part.len() < 8 {
@@ -141,7 +145,9 @@ impl Position {
         requires head { self.old.phase ≡ Phase.Head }
         requires empty { self.old.part ≡ [] }
         requires counted { self.old.start + 8 + length piece.now < 2 ^ 64 }
-        ensures takes { Takes table.now top (behind_head (walk_from table.now top) table.now top self.old.start self.old.around code len) piece.now self.new result }
+        ensures takes { Takes table.now top
+            (behind_head (walk_from table.now top) table.now top self.old.start self.old.around code
+            len) piece.now self.new result }
         ensures count { IfOk result (λ n. bytes_taken self.new ≡ self.old.start + 8 + n) }
     {
         if let Some(error) = self.around.fault(top, self.start, code, len) {
@@ -228,7 +234,8 @@ impl Position {
             → Takes rows limit
             (λ rest. at_payload (walk_from rows limit) self.old.start self.old.around code kind len (self.old.part ++ rest))
             piece.now self.new result }
-        ensures count { IfOk result (λ n. bytes_taken self.new ≡ self.old.start + 8 + length self.old.part + n) }
+        ensures count { IfOk result (λ n. bytes_taken self.new
+            ≡ self.old.start + 8 + length self.old.part + n) }
     {
         let taken = self.part.fill(len as usize, piece)?;
         if self.part.len() < len as usize {

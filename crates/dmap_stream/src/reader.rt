@@ -127,7 +127,8 @@ impl DmapReader {
     /// since its head, whatever length the head states. It keeps none if no leaf is unfinished.
     pub fn held(&self) -> u64
         ensures value { result ≡ kept self.now }
-        ensures came { (fed : List ℕ) (handed : List Event) → HasRead fed handed self.now → self.now.error ≡ None
+        ensures came { (fed : List ℕ) (handed : List Event) → HasRead fed handed self.now
+            → self.now.error ≡ None
             → 0 < result → EndInLeaf self.now.rows self.now.limit fed (handed ++ ready self.now) result }
     {
         self.position.kept()
@@ -136,7 +137,8 @@ impl DmapReader {
     /// Ends the bytes. Refuses them if they end inside a top tag.
     pub fn finish(self) -> Result<(), StreamError>
         ensures end { result ≡ ended self }
-        ensures told { (fed : List ℕ) (handed : List Event) → HasRead fed handed self → self.error ≡ None
+        ensures told { (fed : List ℕ) (handed : List Event) → HasRead fed handed self
+            → self.error ≡ None
             → MatchResult result
             (λ _. (walk_of self.rows self.limit fed).ending ≡ between)
             (λ e. ((walk_of self.rows self.limit fed).ending ≡ inside)

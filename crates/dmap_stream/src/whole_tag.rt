@@ -36,7 +36,8 @@ pub fn read_tag(
     ensures found { IfOk result
         (λ r. (r.1 ≤ length bytes.now) × (take r.1 bytes.now ≡ spelling r.0)
         × (is_accepted table.now limits.top r.0 ≡ true) × IsProperTag r.0) }
-    ensures only { (t : Tree) (rest : List ℕ) → is_accepted table.now limits.top t ≡ true → IsProperTag t
+    ensures only { (t : Tree) (rest : List ℕ) → is_accepted table.now limits.top t ≡ true
+        → IsProperTag t
         → bytes.now ≡ spelling t ++ rest
         → MatchResult result
         (λ r. (r.0 ≡ t) × (r.1 ≡ length (spelling t)))

@@ -26,7 +26,8 @@ pub enum WriteError {
 
 /// Writes a tag's encoding, which is complete in memory before the first byte is written.
 pub fn write_tag<W: Sink>(alloc: Global, tag: &Tag, sink: &mut W) -> Result<(), WriteError>
-    ensures written { OnOk result (Appends (W.taken sink.old) (W.taken sink.new) (spelling tag.now)) }
+    ensures written { OnOk result
+        (Appends (W.taken sink.old) (W.taken sink.new) (spelling tag.now)) }
     ensures count { OnOk result (W.faults sink.new ≡ W.faults sink.old) }
     ensures too_long { (result ≡ Err WriteError.TooLong) ↔ (is_spellable tag.now ≡ false) }
     ensures untouched { IfErr result (λ e. e ≢ WriteError.Failed → sink.new ≡ sink.old) }

@@ -36,7 +36,8 @@ impl Text {
 
     /// Returns `bytes` as a text, without copying them, or as `Bytes` if they aren't UTF-8.
     pub fn from_utf8(bytes: Vec<u8>) -> Result<Text, Bytes>
-        ensures { MatchResult result (λ t. (t ≡ bytes.items) × (is_utf8 bytes.items ≡ true)) (λ b. (b ≡ bytes.items) × (is_utf8 bytes.items ≡ false)) }
+        ensures { MatchResult result (λ t. (t ≡ bytes.items) × (is_utf8 bytes.items ≡ true))
+            (λ b. (b ≡ bytes.items) × (is_utf8 bytes.items ≡ false)) }
     {
         match String::from_utf8(bytes) {
             Ok(text) => Ok(Text { text }),

@@ -77,7 +77,9 @@ fn payload_len(tag: &Tag) -> Option<u32>
 #[cycle(payload_len)]
 #[tactic(auto, using(crate::proofs::Sizes::member_falls, crate::proofs::Lengths::none_left))]
 fn members_len(tags: &[Tag]) -> Option<u32>
-    ensures { result ≡ (if are_spellable (trees_of tags.now) && nat_le (length (spellings (trees_of tags.now))) longest then Some (length (spellings (trees_of tags.now))) else None) }
+    ensures { result ≡ (if are_spellable (trees_of tags.now)
+        && nat_le (length (spellings (trees_of tags.now))) longest then Some
+        (length (spellings (trees_of tags.now))) else None) }
 {
     let mut total: u32 = 0;
     for tag in tags {
@@ -115,7 +117,8 @@ fn push_tag(tag: &Tag, out: &mut Vec<u8>) -> Result<(), AllocError>
 /// Writes into the four bytes at `at` how many bytes follow them.
 fn put_length(out: &mut Vec<u8>, at: usize)
     requires { (at + 4 ≤ vec_len out.old) × (vec_len out.old ≤ at + 4 + longest) }
-    ensures { out.new.items ≡ take at out.old.items ++ to_be_bytes w32 (vec_len out.old - (at + 4)) ++ drop (at + 4) out.old.items }
+    ensures { out.new.items ≡ take at out.old.items ++ to_be_bytes w32 (vec_len out.old - (at + 4))
+        ++ drop (at + 4) out.old.items }
 {
     let len = (out.len() - at - 4) as u32;
     out[at..at + 4].copy_from_slice(&len.to_be_bytes());

@@ -64,7 +64,8 @@ fn number(kind: Kind, payload: &[u8]) -> Option<Value>
 }
 
 fn of_one(payload: &[u8]) -> Option<u8>
-    ensures { result ≡ (if length payload.now == 1 then Some (from_be_bytes w8 payload.now) else None) }
+    ensures { result ≡ (if length payload.now == 1 then Some (from_be_bytes w8 payload.now)
+        else None) }
 {
     match payload {
         [a] => Some(*a),
@@ -73,7 +74,8 @@ fn of_one(payload: &[u8]) -> Option<u8>
 }
 
 fn of_two(payload: &[u8]) -> Option<u16>
-    ensures { result ≡ (if length payload.now == 2 then Some (from_be_bytes w16 payload.now) else None) }
+    ensures { result ≡ (if length payload.now == 2 then Some (from_be_bytes w16 payload.now)
+        else None) }
 {
     match payload {
         [a, b] => Some(u16::from_be_bytes([*a, *b])),
@@ -82,7 +84,8 @@ fn of_two(payload: &[u8]) -> Option<u16>
 }
 
 fn of_four(payload: &[u8]) -> Option<u32>
-    ensures { result ≡ (if length payload.now == 4 then Some (from_be_bytes w32 payload.now) else None) }
+    ensures { result ≡ (if length payload.now == 4 then Some (from_be_bytes w32 payload.now)
+        else None) }
 {
     match payload {
         [a, b, c, d] => Some(u32::from_be_bytes([*a, *b, *c, *d])),
@@ -91,7 +94,8 @@ fn of_four(payload: &[u8]) -> Option<u32>
 }
 
 fn of_eight(payload: &[u8]) -> Option<u64>
-    ensures { result ≡ (if length payload.now == 8 then Some (from_be_bytes w64 payload.now) else None) }
+    ensures { result ≡ (if length payload.now == 8 then Some (from_be_bytes w64 payload.now)
+        else None) }
 {
     match payload {
         [a, b, c, d, e, f, g, h] => Some(u64::from_be_bytes([*a, *b, *c, *d, *e, *f, *g, *h])),

@@ -51,9 +51,11 @@ pub trait Keeps {
     /// Returns `Lost` and counts an error if the batch may not have been kept.
     fn keep(&mut self, ready: Self::Ready) -> Result<(), Lost>
         requires going { is_lost self.old ≡ false }
-        ensures acknowledged { (batches : List (List Edit)) (batch : List Edit) → keeps self.old batches → is_for ready batch
+        ensures acknowledged { (batches : List (List Edit)) (batch : List Edit)
+            → keeps self.old batches → is_for ready batch
             → OnOk result (keeps self.new (batches ++ batch ∷ [])) }
-        ensures kept { (batches : List (List Edit)) → keeps self.old batches → OnErr result (keeps self.new batches) }
+        ensures kept { (batches : List (List Edit)) → keeps self.old batches
+            → OnErr result (keeps self.new batches) }
         ensures lost { is_lost self.new ≡ is_err result }
         ensures place_stays { place self.new ≡ place self.old }
         ensures count { CountsFaults (faults self.old) (faults self.new) result };

@@ -10,7 +10,8 @@ use std::alloc::Global;
 
 /// Copies an input of at most five bytes, and returns the status that a program would.
 pub(crate) fn copied_whole<I: Source, W: Sink>(alloc: Global, input: &mut I, output: &mut W) -> u8
-    ensures copied { result ≡ 0 → IfSome (I.left input.old) (Appends (W.taken output.old) (W.taken output.new)) }
+    ensures copied { result ≡ 0 → IfSome (I.left input.old)
+        (Appends (W.taken output.old) (W.taken output.new)) }
     ensures read { result ≡ 4 → Rose (I.faults input.old) (I.faults input.new) }
     ensures written { result ≡ 5 → Rose (W.faults output.old) (W.faults output.new) }
     ensures long { result ≡ 8 → IfSome (I.left input.old) (λ left. 5 < length left) }
@@ -58,7 +59,8 @@ pub(crate) fn sent<N: Net>(net: &mut N, place: &str, bytes: &[u8]) -> Result<(),
 /// Sends bytes on the next connection that comes, if one does, and returns it to the listener.
 pub(crate) fn greeted<D: Listener>(listener: &mut D, bytes: &[u8]) -> Result<bool, Failed>
     ensures count { OnErr result (Rose (D.faults listener.old) (D.faults listener.new)) }
-    ensures none { IfOk result (λ some. IfSome (D.coming listener.old) (λ coming. some ≡ false → coming ≡ [])) }
+    ensures none { IfOk result (λ some. IfSome (D.coming listener.old) (λ coming. some ≡ false
+        → coming ≡ [])) }
     ensures next { IfOk result (λ some. IfSome (D.coming listener.old) (λ coming.
         some ≡ true → D.coming listener.new ≡ Some (drop 1 coming))) }
 {

@@ -17,7 +17,8 @@ use std::alloc::{AllocError, Global};
 /// Returns the parameters of an operation, encoded.
 pub fn form_of(alloc: Global, want: &Want) -> Result<String, AllocError>
     requires { CanSend want.now }
-    ensures form { IfOk result (λ form. string_bytes form ≡ with_parameters [] (parameters_of want.now)) }
+    ensures form { IfOk result (λ form. string_bytes form
+        ≡ with_parameters [] (parameters_of want.now)) }
     ensures utf8 { OnOk result (IsTextOf want.now) }
 {
     let mut form = Serializer::new(String::new(alloc));
@@ -31,7 +32,8 @@ fn push_parameters(
     want: &Want,
 ) -> Result<(), AllocError>
     requires { CanSend want.now }
-    ensures form { OnOk result (form.new ≡ record form.old { form = with_parameters form.old.form (parameters_of want.now) }) }
+    ensures form { OnOk result (form.new
+        ≡ record form.old { form = with_parameters form.old.form (parameters_of want.now) }) }
     ensures utf8 { OnOk result (IsTextOf want.now) }
 {
     match want {
@@ -60,7 +62,11 @@ fn push_parameters(
 }
 
 fn push_session(form: &mut Serializer<Global>, session: u32) -> Result<(), AllocError>
-    ensures { OnOk result (form.new ≡ record form.old { form = append_pair form.old.form (codes "session-id") (decimal session) }) }
+    ensures { OnOk result (form.new
+        ≡ record form.old {
+          form = append_pair form.old.form (codes "session-id")
+              (decimal session);
+        }) }
 {
     push_number(form, "session-id", session)
 }
@@ -68,7 +74,8 @@ fn push_session(form: &mut Serializer<Global>, session: u32) -> Result<(), Alloc
 // Appends the parameters of a look, without those at their default.
 fn push_look(alloc: Global, form: &mut Serializer<Global>, look: &Look) -> Result<(), AllocError>
     requires { MayAsk look.now.query }
-    ensures form { OnOk result (form.new ≡ record form.old { form = with_parameters form.old.form (look_parameters look.now) }) }
+    ensures form { OnOk result (form.new
+        ≡ record form.old { form = with_parameters form.old.form (look_parameters look.now) }) }
     ensures utf8 { OnOk result (IsText look.now.query) }
 {
     push_base(form, look.base)?;
@@ -78,7 +85,8 @@ fn push_look(alloc: Global, form: &mut Serializer<Global>, look: &Look) -> Resul
 }
 
 fn push_base(form: &mut Serializer<Global>, base: u32) -> Result<(), AllocError>
-    ensures { OnOk result (form.new ≡ record form.old { form = with_value form.old.form (codes "delta") (unless_zero base) }) }
+    ensures { OnOk result (form.new
+        ≡ record form.old { form = with_value form.old.form (codes "delta") (unless_zero base) }) }
 {
     if base == 0 {
         return Ok(());
@@ -87,7 +95,11 @@ fn push_base(form: &mut Serializer<Global>, base: u32) -> Result<(), AllocError>
 }
 
 fn push_meta(alloc: Global, form: &mut Serializer<Global>, meta: &Meta) -> Result<(), AllocError>
-    ensures { OnOk result (form.new ≡ record form.old { form = with_value form.old.form (codes "meta") (meta_value meta.now) }) }
+    ensures { OnOk result (form.new
+        ≡ record form.old {
+          form = with_value form.old.form (codes "meta")
+              (meta_value meta.now);
+        }) }
 {
     match meta {
         Meta::Default => Ok(()),
@@ -106,7 +118,8 @@ fn push_query(
     query: &Option<Query>,
 ) -> Result<(), AllocError>
     requires { MayAsk query.now }
-    ensures form { OnOk result (form.new ≡ record form.old { form = with_value form.old.form name.now (query_value query.now) }) }
+    ensures form { OnOk result (form.new
+        ≡ record form.old { form = with_value form.old.form name.now (query_value query.now) }) }
     ensures utf8 { OnOk result (IsText query.now) }
 {
     let Some(query) = query else {
@@ -117,7 +130,8 @@ fn push_query(
 }
 
 fn push_range(alloc: Global, form: &mut Serializer<Global>, range: Range) -> Result<(), AllocError>
-    ensures { OnOk result (form.new ≡ record form.old { form = with_value form.old.form (codes "index") (range_value range) }) }
+    ensures { OnOk result (form.new
+        ≡ record form.old { form = with_value form.old.form (codes "index") (range_value range) }) }
 {
     if let Range::All = range {
         return Ok(());
@@ -151,7 +165,8 @@ fn hyphened(alloc: Global, before: &str, behind: &str) -> Result<String, AllocEr
 }
 
 fn push_number(form: &mut Serializer<Global>, name: &str, number: u32) -> Result<(), AllocError>
-    ensures { OnOk result (form.new ≡ record form.old { form = append_pair form.old.form name.now (decimal number) }) }
+    ensures { OnOk result (form.new
+        ≡ record form.old { form = append_pair form.old.form name.now (decimal number) }) }
 {
     form.append_pair(name, Buffer::new().format(number))
 }

@@ -46,7 +46,8 @@ impl Model for ReplyReader {
 impl ReplyReader {
     /// Returns a reader without bytes. Does not allocate.
     pub fn new(alloc: Global) -> ReplyReader
-        ensures idle { (result.ready ≡ None) × (result.error ≡ None) × (result.kept ≡ []) × (result.taken ≡ 0) }
+        ensures idle { (result.ready ≡ None) × (result.error ≡ None) × (result.kept ≡ [])
+            × (result.taken ≡ 0) }
         ensures begins { HasRead [] [] result }
     {
         ReplyReader {

@@ -20,7 +20,8 @@ use std::alloc::{AllocError, Global};
 pub fn request(alloc: Global, ask: &Ask, host: &str) -> Result<Bytes, AllocError>
     requires { CanSend ask.now.want }
     ensures text { IfOk result (λ b. b ≡ request_text ask.now.want host.now) }
-    ensures reads { IfOk result (λ b. IsSent ask.now host.now → IsReading ask.now.role b (reading (ask.now ∷ []) [] None)) }
+    ensures reads { IfOk result (λ b. IsSent ask.now host.now
+        → IsReading ask.now.role b (reading (ask.now ∷ []) [] None)) }
 {
     know_numbers(&ask.want);
     text_of(alloc, &ask.want, host)
@@ -161,7 +162,8 @@ fn push_method(text: &mut Vec<u8>, verb: Verb) -> Result<(), AllocError>
 
 // Appends what follows the target.
 fn push_rest(text: &mut Vec<u8>, verb: Verb, host: &str, body: &[u8]) -> Result<(), AllocError>
-    ensures { OnOk result (text.new.items ≡ text.old.items ++ (codes " HTTP/1.1\r\n" ++ fields_and_body verb host.now body.now)) }
+    ensures { OnOk result (text.new.items
+        ≡ text.old.items ++ (codes " HTTP/1.1\r\n" ++ fields_and_body verb host.now body.now)) }
 {
     text.extend_from_slice(b" HTTP/1.1\r\n")?;
     push_field(text, b"Host", host.as_bytes())?;

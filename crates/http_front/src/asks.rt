@@ -25,7 +25,8 @@ pub fn read_ask(
 ) -> Result<Ask, HeadError>
     requires routes { router.now ≡ all_routes }
     requires head { Answers head.now (Ok (length body.now)) }
-    ensures { MatchResult result (λ ask. (h : RequestHead) × IsHead head.now h × Asks role h body.now ask) (λ e. e ≡ HeadError.Memory) }
+    ensures { MatchResult result (λ ask. (h : RequestHead) × IsHead head.now h
+        × Asks role h body.now ask) (λ e. e ≡ HeadError.Memory) }
 {
     let head = read_head(head)?;
     let (path, query) = path_and_query(head.target);

@@ -8,7 +8,8 @@ ghost use Rattle.std.specs.Option.{option_map_or};
 pub fn split_at_first(bytes: &[u8], at: u8) -> (&[u8], Option<&[u8]>)
     ensures before { result.0.now ≡ before_first (λ b. b == at) bytes.now }
     ensures found { is_some result.1 ≡ list_any (λ b. b == at) bytes.now }
-    ensures behind { option_map_or (λ rest. rest.now) result.1 [] ≡ after_first (λ b. b == at) bytes.now }
+    ensures behind { option_map_or (λ rest. rest.now) result.1 []
+        ≡ after_first (λ b. b == at) bytes.now }
 {
     match offset_of(bytes, at) {
         Some(i) => {

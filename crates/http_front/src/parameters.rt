@@ -88,7 +88,8 @@ pub fn query_in(alloc: Global, text: Option<&str>) -> Result<Option<Query>, Flaw
 /// Returns the value of the first parameter called `name`, unless it is empty.
 #[tactic(auto, unfolding(crate::specs::Parameters::nonempty_value))]
 pub fn nonempty_value(alloc: Global, query: &[u8], name: &str) -> Result<Option<String>, AllocError>
-    ensures { IfOk result (λ text. option_map string_bytes text ≡ nonempty_value name.now query.now) }
+    ensures { IfOk result (λ text. option_map string_bytes text
+        ≡ nonempty_value name.now query.now) }
 {
     let Some(text) = first_named(alloc, query, name)? else {
         return Ok(None);
@@ -100,7 +101,8 @@ pub fn nonempty_value(alloc: Global, query: &[u8], name: &str) -> Result<Option<
 }
 
 fn first_named(alloc: Global, query: &[u8], name: &str) -> Result<Option<String>, AllocError>
-    ensures { IfOk result (λ text. option_map string_bytes text ≡ first_named name.now (raw_pairs query.now)) }
+    ensures { IfOk result (λ text. option_map string_bytes text
+        ≡ first_named name.now (raw_pairs query.now)) }
 {
     for (key, value) in raw_pairs(query) {
         if is_named(alloc, key, name)? {

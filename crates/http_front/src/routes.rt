@@ -81,7 +81,8 @@ pub fn router(alloc: Global) -> Result<Router<Route>, AllocError>
 }
 
 fn router_of(alloc: Global, table: &[(&str, Route)]) -> Result<Router<Route>, AllocError>
-    ensures { IfOk result (λ router. router ≡ rows_of (map (λ entry. (entry.0.now, entry.1)) table.now)) }
+    ensures { IfOk result (λ router. router
+        ≡ rows_of (map (λ entry. (entry.0.now, entry.1)) table.now)) }
 {
     let mut router = Router::new(alloc);
     for (path, route) in table {
@@ -103,7 +104,8 @@ pub fn resource_of(router: &Router<Route>, role: Role, path: &[u8]) -> Option<Re
 }
 
 fn text_of(path: &[u8]) -> Option<&str>
-    ensures { MatchOption result (is_utf8 path.now ≡ false) (λ text. (text.now ≡ path.now) × (is_utf8 path.now ≡ true)) }
+    ensures { MatchOption result (is_utf8 path.now ≡ false) (λ text. (text.now ≡ path.now)
+        × (is_utf8 path.now ≡ true)) }
 {
     match str::from_utf8(path) {
         Ok(text) => Some(text),

@@ -31,7 +31,8 @@ pub fn read_want(
     request: &Request<'_>,
 ) -> Result<Want, AllocError>
     requires { router.now ≡ all_routes }
-    ensures { IfOk result (λ want. Wants role request.now.method.now request.now.path.now request.now.query.now request.now.body.now want) }
+    ensures { IfOk result (λ want. Wants role request.now.method.now request.now.path.now
+        request.now.query.now request.now.body.now want) }
 {
     let Some(resource) = resource_of(router, role, request.path) else {
         return Ok(Want::Bad(AskError::Path));
@@ -199,7 +200,9 @@ fn values(alloc: Global, browse: Browse, query: &[u8]) -> Result<Want, Flaw>
 
 // Returns the filter if it is present, otherwise the query.
 fn filter_or_query(alloc: Global, query: &[u8]) -> Result<Option<String>, AllocError>
-    ensures { IfOk result (λ text. option_map string_bytes text ≡ filter_or (nonempty_value (codes "filter") query.now) (nonempty_value (codes "query") query.now)) }
+    ensures { IfOk result (λ text. option_map string_bytes text
+        ≡ filter_or (nonempty_value (codes "filter") query.now)
+        (nonempty_value (codes "query") query.now)) }
 {
     match nonempty_value(alloc, query, "filter")? {
         Some(filter) => Ok(Some(filter)),

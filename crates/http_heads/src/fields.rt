@@ -58,7 +58,8 @@ pub fn is_last(version: u8, bytes: &[u8], spans: &[HeaderSpan]) -> bool
 
 fn some_closes(bytes: &[u8], spans: &[HeaderSpan]) -> bool
     requires { All (IsHeaderWithin (length bytes.now)) spans.now }
-    ensures { result ≡ list_any has_close (values (codes "connection") (map (header_bytes bytes.now) spans.now)) }
+    ensures { result ≡ list_any has_close
+        (values (codes "connection") (map (header_bytes bytes.now) spans.now)) }
 {
     let mut rest = spans;
     while let Some((value, behind)) = next_named(bytes, rest, b"connection") {
@@ -80,7 +81,8 @@ fn has_field(bytes: &[u8], spans: &[HeaderSpan], name: &[u8]) -> bool
 // Returns the length in the one `Content-Length` field, or `absent` without such a field.
 fn read_told_length(bytes: &[u8], spans: &[HeaderSpan], absent: Option<u128>) -> Option<u128>
     requires { All (IsHeaderWithin (length bytes.now)) spans.now }
-    ensures { result ≡ told_length absent (values (codes "content-length") (map (header_bytes bytes.now) spans.now)) }
+    ensures { result ≡ told_length absent
+        (values (codes "content-length") (map (header_bytes bytes.now) spans.now)) }
 {
     let Some((value, behind)) = next_named(bytes, spans, b"content-length") else {
         return absent;
@@ -99,7 +101,9 @@ fn next_named<'b>(
 ) -> Option<(&'b [u8], &'b [HeaderSpan])>
     requires { All (IsHeaderWithin (length bytes.now)) spans.now }
     ensures none { IfNone result (values name.now (map (header_bytes bytes.now) spans.now) ≡ []) }
-    ensures some { IfSome result (λ r. values name.now (map (header_bytes bytes.now) spans.now) ≡ r.0.now ∷ values name.now (map (header_bytes bytes.now) r.1.now)) }
+    ensures some { IfSome result
+        (λ r. values name.now (map (header_bytes bytes.now) spans.now)
+        ≡ r.0.now ∷ values name.now (map (header_bytes bytes.now) r.1.now)) }
     ensures within { IfSome result (λ r. All (IsHeaderWithin (length bytes.now)) r.1.now) }
     ensures fewer { IfSome result (λ r. length r.1.now < length spans.now) }
 {

@@ -88,7 +88,8 @@ impl Gatherer {
     /// Returns the head and the body of the message if it is complete.
     pub fn message(&self) -> Option<(&[u8], &[u8])>
         ensures none { IsNone result ↔ (is_whole self.now.phase ≡ false) }
-        ensures parts { IfSome result (λ m. (m.0.now ≡ self.now.message.head) × (m.1.now ≡ self.now.message.body)) }
+        ensures parts { IfSome result (λ m. (m.0.now ≡ self.now.message.head)
+            × (m.1.now ≡ self.now.message.body)) }
     {
         match self.phase {
             Phase::Whole => Some((self.head.as_slice(), self.body.as_slice())),
@@ -156,7 +157,8 @@ impl Gatherer {
         requires goes { after start (self.old.message.head ++ sought.now) ≡ Some scan }
         requires body { self.old.message.body ≡ [] }
         ensures kind { self.new.kind ≡ self.old.kind }
-        ensures all { IfOk result (λ n. (n ≡ length sought.now) × (length (kept self.new) < head_limit)) }
+        ensures all { IfOk result (λ n. (n ≡ length sought.now)
+            × (length (kept self.new) < head_limit)) }
         ensures takes { Takes self.old sought.now self.new result }
     {
         self.head.extend(sought)?;
@@ -186,8 +188,10 @@ impl Gatherer {
     fn take_body(&mut self, told: usize, piece: &[u8]) -> Result<usize, HeadError>
         requires head { HasHead self.old.kind self.old.message.head told }
         requires within { length self.old.message.body ≤ told }
-        ensures same { (self.new.kind ≡ self.old.kind) × (self.new.message.head ≡ self.old.message.head) }
-        ensures takes { MatchResult result (λ n. TakesSome self.old piece.now self.new n) (λ e. e ≡ HeadError.Memory) }
+        ensures same { (self.new.kind ≡ self.old.kind)
+            × (self.new.message.head ≡ self.old.message.head) }
+        ensures takes { MatchResult result (λ n. TakesSome self.old piece.now self.new n)
+            (λ e. e ≡ HeadError.Memory) }
     {
         let missing = (told - self.body.len()).min(piece.len());
         let (front, _) = piece.split_at(missing);

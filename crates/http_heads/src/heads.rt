@@ -28,7 +28,8 @@ pub struct Head<'b> {
 /// Reads `bytes`, all of them, as a request's head.
 /// Returns `Head` if they are not one, and `Length` or `BodyTooLarge` for the length of its body.
 pub fn read_head(bytes: &[u8]) -> Result<Head<'_>, HeadError>
-    ensures { MatchResult result (λ head. (h : RequestHead) × TellsHead bytes.now h head) (λ e. RefusesRead bytes.now e) }
+    ensures { MatchResult result (λ head. (h : RequestHead) × TellsHead bytes.now h head)
+        (λ e. RefusesRead bytes.now e) }
 {
     let mut room = [EMPTY_HEADER_SPAN; FIELDS];
     let Some(spans) = spans_of(bytes, &mut room) else {

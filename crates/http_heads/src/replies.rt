@@ -21,7 +21,8 @@ pub struct ReplyHead {
 /// Reads `bytes`, all of them, as a reply's head. Returns `None` if they are not one, or its body has no valid
 /// length.
 pub fn read_reply_head(bytes: &[u8]) -> Option<ReplyHead>
-    ensures { MatchOption result (RefusesReply bytes.now) (λ head. (h : ResponseHead) × TellsReplyHead bytes.now h head) }
+    ensures { MatchOption result (RefusesReply bytes.now) (λ head. (h : ResponseHead)
+        × TellsReplyHead bytes.now h head) }
 {
     let mut room = [EMPTY_HEADER_SPAN; FIELDS];
     let spans = spans_of(bytes, &mut room)?;
@@ -34,7 +35,8 @@ pub fn read_reply_head(bytes: &[u8]) -> Option<ReplyHead>
 }
 
 fn spans_of(bytes: &[u8], room: &mut [HeaderSpan; FIELDS]) -> Option<ResponseSpans>
-    ensures { MatchOption result (HasNoReplyHead bytes.now) (λ spans. ReadsReply bytes.now room.new spans) }
+    ensures { MatchOption result (HasNoReplyHead bytes.now)
+        (λ spans. ReadsReply bytes.now room.new spans) }
 {
     match parse_response(bytes, room) {
         Ok(Status::Complete(spans)) if spans.len == bytes.len() => Some(spans),

@@ -36,8 +36,10 @@ impl Scan {
         requires { self.old.full + length piece.now < 2 ^ 64 }
         ensures none { IfNone result (after self.old piece.now ≡ Some self.new) }
         ensures within { IfSome result (λ n. (0 < n) × (n ≤ length piece.now)) }
-        ensures front { IfSome result (λ n. after self.old (take (n - 1) piece.now) ≡ Some self.new) }
-        ensures end { IfSome result (λ n. after_byte self.new (slice_index piece.now (n - 1)) ≡ None) }
+        ensures front { IfSome result
+            (λ n. after self.old (take (n - 1) piece.now) ≡ Some self.new) }
+        ensures end { IfSome result (λ n. after_byte self.new (slice_index piece.now (n - 1))
+            ≡ None) }
     {
         for (i, byte) in piece.iter().enumerate() {
             match self.behind(*byte) {

@@ -16,7 +16,8 @@ fn feed(
 ) -> Result<bool, AllocError>
     requires ready { reader.old.ready ≡ None }
     requires few { reader.old.taken + length piece.now < 2 ^ 64 }
-    ensures { IfOk result (λ goes_on. goes_on ≡ true → (reader.new.ready ≡ None) × (reader.new.taken ≡ reader.old.taken + length piece.now)) }
+    ensures { IfOk result (λ goes_on. goes_on ≡ true → (reader.new.ready ≡ None)
+        × (reader.new.taken ≡ reader.old.taken + length piece.now)) }
 {
     let mut rest = piece;
     while !rest.is_empty() {

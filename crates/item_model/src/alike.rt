@@ -13,7 +13,9 @@ use crate::property::Property;
 /// key. Does not allocate.
 #[tactic(auto, using(crate::proofs::AlikeFacts::rows_alike))]
 pub fn is_shown_alike(old: &Row, new: &Row, properties: &[Property]) -> bool
-    ensures { (member : Option ℕ) → result ≡ is_same_tag (listed_row old.now member properties.now) (listed_row new.now member properties.now) }
+    ensures { (member : Option ℕ)
+        → result ≡ is_same_tag (listed_row old.now member properties.now)
+        (listed_row new.now member properties.now) }
 {
     old.id == new.id && have_alike(&old.item, &new.item, properties)
 }
@@ -21,7 +23,8 @@ pub fn is_shown_alike(old: &Row, new: &Row, properties: &[Property]) -> bool
 // Returns whether the items have equal values of each property.
 #[tactic(auto, using(crate::proofs::AlikeFacts::alike_at))]
 fn have_alike(old: &Item, new: &Item, properties: &[Property]) -> bool
-    ensures { result ≡ are_same_tags (shown_trees old.now properties.now) (shown_trees new.now properties.now) }
+    ensures { result ≡ are_same_tags (shown_trees old.now properties.now)
+        (shown_trees new.now properties.now) }
 {
     for property in properties {
         if !have_equal_value(old, new, *property) {

@@ -70,7 +70,9 @@ pub(crate) fn keep(
     property: Property,
     fold: Option<Text>,
 ) -> Result<(), AllocError>
-    ensures kept { OnOk result ((q : Property) → kept_for q folds.new.items ≡ (if is_same property q then fold else kept_for q folds.old.items)) }
+    ensures kept { OnOk result ((q : Property)
+        → kept_for q folds.new.items
+        ≡ (if is_same property q then fold else kept_for q folds.old.items)) }
     ensures unchanged { OnErr result (folds.new.items ≡ folds.old.items) }
 {
     let Some(fold) = fold else {
@@ -84,7 +86,8 @@ pub(crate) fn keep(
 }
 
 fn forget(folds: &mut Vec<(Property, Text)>, property: Property)
-    ensures others { folds.new.items ≡ filter (λ fold. not (is_same fold.0 property)) folds.old.items }
+    ensures others { folds.new.items
+        ≡ filter (λ fold. not (is_same fold.0 property)) folds.old.items }
     ensures len { vec_len folds.new ≤ vec_len folds.old }
     ensures capacity { vec_capacity folds.new ≡ vec_capacity folds.old }
 {

@@ -48,7 +48,8 @@ impl Meta {
     /// Returns a text that requests these properties. If no property is named, it is a single comma.
     pub fn print(&self, alloc: Global) -> Result<Text, AllocError>
         ensures printed { IfOk result (λ text. text ≡ meta_text self.now) }
-        ensures reads_back { IfOk result (λ printed. (text : List ℕ) → meta_of text ≡ Some self.now → meta_of printed ≡ Some self.now) }
+        ensures reads_back { IfOk result (λ printed. (text : List ℕ) → meta_of text ≡ Some self.now
+            → meta_of printed ≡ Some self.now) }
     {
         match self {
             Meta::Default => Text::of(alloc, ""),

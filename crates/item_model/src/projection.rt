@@ -77,7 +77,8 @@ fn push_property(tags: &mut Tags, item: &Item, property: Property) -> Result<(),
 
 fn tag_value(property: Property, value: &PropValue) -> Result<Value, AllocError>
     requires { is_value_of property value.now ≡ true }
-    ensures { IfOk result (λ v. tree_with (property_code property) v ≡ property_tag property value.now) }
+    ensures { IfOk result (λ v. tree_with (property_code property) v
+        ≡ property_tag property value.now) }
 {
     match value {
         PropValue::Number(n) => Ok(typed(property.kind(), *n)),

@@ -166,7 +166,8 @@ impl Property {
 
 /// Returns the row of a property in a table that has the rows of all in order.
 fn row_in(rows: &[PropertyRow], property: Property) -> PropertyRow
-    requires { map (λ row. (code_of row.0, row.1.now, row.2)) rows.now ≡ map property_row all_properties }
+    requires { map (λ row. (code_of row.0, row.1.now, row.2)) rows.now
+        ≡ map property_row all_properties }
     ensures { (code_of result.0, result.1.now, result.2) ≡ property_row property }
 {
     rows[property.rank()]
@@ -188,7 +189,8 @@ fn first_named(properties: &[Property], name: &[u8]) -> Option<Property>
 }
 
 fn first_coded(properties: &[Property], code: Code) -> Option<Property>
-    ensures { result ≡ find (λ p. bytes_eq (code_bytes (property_code p)) (code_bytes code)) properties.now }
+    ensures { result ≡ find (λ p. bytes_eq (code_bytes (property_code p)) (code_bytes code))
+        properties.now }
 {
     properties.iter().copied().find(|p| p.code() == code)
 }

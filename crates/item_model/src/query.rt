@@ -95,7 +95,8 @@ impl Queries {
 
     /// Returns the query if there is exactly one, and the list as it is otherwise.
     pub fn single(self) -> Result<Query, Queries>
-        ensures { MatchResult result (λ query. self ≡ tree_of query ∷ []) (λ queries. (queries ≡ self) × (length self ≢ 1)) }
+        ensures { MatchResult result (λ query. self ≡ tree_of query ∷ [])
+            (λ queries. (queries ≡ self) × (length self ≢ 1)) }
     {
         let Queries { mut items } = self;
         if items.len() != 1 {

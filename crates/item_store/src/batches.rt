@@ -26,11 +26,17 @@ pub(crate) fn take_in_batch(
     revision: u32,
 ) -> Result<u32, AllocError>
     requires { AreValid edits.now }
-    ensures named { OnOk result (map (λ v. v.items) named.new.items ≡ map (λ v. v.items) named.old.items ++ named_items edits.now ∷ []) }
-    ensures items { IfOk result (λ now. (es : List Edit) → AreItems revision es held.old count → AreItems revision (es ++ edits.now) held.new now) }
-    ensures before { OnOk result ((q base : ℕ) → base < revision → value_at held.new q base ≡ value_at held.old q base) }
-    ensures named_left { OnErr result (map (λ v. v.items) named.new.items ≡ map (λ v. v.items) named.old.items) }
-    ensures rows_left { OnErr result (1 ≤ revision → (q base : ℕ) → (value_at held.new q base ≡ value_at held.old q base) ⊎ (value_at held.new q base ≡ value_at held.old q (min base (revision - 1)))) }
+    ensures named { OnOk result (map (λ v. v.items) named.new.items
+        ≡ map (λ v. v.items) named.old.items ++ named_items edits.now ∷ []) }
+    ensures items { IfOk result (λ now. (es : List Edit) → AreItems revision es held.old count
+        → AreItems revision (es ++ edits.now) held.new now) }
+    ensures before { OnOk result ((q base : ℕ) → base < revision
+        → value_at held.new q base ≡ value_at held.old q base) }
+    ensures named_left { OnErr result
+        (map (λ v. v.items) named.new.items ≡ map (λ v. v.items) named.old.items) }
+    ensures rows_left { OnErr result (1 ≤ revision → (q base : ℕ)
+        → (value_at held.new q base ≡ value_at held.old q base)
+        ⊎ (value_at held.new q base ≡ value_at held.old q (min base (revision - 1)))) }
 {
     let ids = match ids_of(alloc, edits) {
         Ok(ids) => ids,
@@ -55,8 +61,13 @@ pub(crate) fn take_back_batch(
     named: &mut VecDeque<Vec<u32>>,
     revision: u32,
 )
-    ensures named { (front : List (List ℕ)) (ids : List ℕ) → map (λ v. v.items) named.old.items ≡ front ++ ids ∷ [] → map (λ v. v.items) named.new.items ≡ front }
-    ensures rows { 1 ≤ revision → (front : List (List ℕ)) (ids : List ℕ) → map (λ v. v.items) named.old.items ≡ front ++ ids ∷ [] → (q base : ℕ) → value_at held.new q base ≡ value_at held.old q (if is_among q ids then min base (revision - 1) else base) }
+    ensures named { (front : List (List ℕ)) (ids : List ℕ)
+        → map (λ v. v.items) named.old.items ≡ front ++ ids ∷ []
+        → map (λ v. v.items) named.new.items ≡ front }
+    ensures rows { 1 ≤ revision → (front : List (List ℕ)) (ids : List ℕ)
+        → map (λ v. v.items) named.old.items ≡ front ++ ids ∷ [] → (q base : ℕ)
+        → value_at held.new q base
+        ≡ value_at held.old q (if is_among q ids then min base (revision - 1) else base) }
 {
     match named.pop_back() {
         Some(ids) => held.take_back_all(ids.as_slice(), revision),
@@ -73,7 +84,8 @@ pub(crate) fn prune_to(
     floor: u32,
 )
     ensures named { named.new.items ≡ drop (floor - low) named.old.items }
-    ensures rows { (q base : ℕ) → floor ≤ base → value_at held.new q base ≡ value_at held.old q base }
+    ensures rows { (q base : ℕ) → floor ≤ base
+        → value_at held.new q base ≡ value_at held.old q base }
 {
     for passed in 0..floor.saturating_sub(low) {
         prune_batch(held, named, floor);
@@ -82,7 +94,8 @@ pub(crate) fn prune_to(
 
 fn prune_batch(held: &mut Versions<SharedRow>, named: &mut VecDeque<Vec<u32>>, floor: u32)
     ensures named { named.new.items ≡ drop 1 named.old.items }
-    ensures rows { (q base : ℕ) → floor ≤ base → value_at held.new q base ≡ value_at held.old q base }
+    ensures rows { (q base : ℕ) → floor ≤ base
+        → value_at held.new q base ≡ value_at held.old q base }
 {
     match named.pop_front() {
         Some(ids) => held.prune_all(ids.as_slice(), floor),
@@ -96,7 +109,8 @@ pub(crate) fn ids_after(
     named: &VecDeque<Vec<u32>>,
     passed: usize,
 ) -> Result<BTreeSet<u32>, AllocError>
-    ensures { IfOk result (λ ids. ids.keys ≡ ascending (flat_map (λ v. v.items) (drop passed named.now.items))) }
+    ensures { IfOk result (λ ids. ids.keys
+        ≡ ascending (flat_map (λ v. v.items) (drop passed named.now.items))) }
 {
     let mut ids = BTreeSet::new(alloc);
     for index in passed..named.len() {

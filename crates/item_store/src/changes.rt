@@ -18,7 +18,8 @@ pub(crate) fn changes_of(
     edits: &[Edit],
 ) -> Result<Vec<(u32, Option<SharedRow>)>, AllocError>
     ensures ascending { IfOk result (λ changes. IsAscending changes.items) }
-    ensures said { IfOk result (λ changes. (id : ℕ) → at id changes.items ≡ last_said (says_item id) edits.now) }
+    ensures said { IfOk result (λ changes. (id : ℕ)
+        → at id changes.items ≡ last_said (says_item id) edits.now) }
 {
     let mut changes = BTreeMap::new(alloc);
     for edit in edits {
@@ -29,7 +30,9 @@ pub(crate) fn changes_of(
 
 // Lets an edit decide what is said of its id.
 fn note(changes: &mut Changes, edit: &Edit) -> Result<(), AllocError>
-    ensures { OnOk result ((id : ℕ) → at id changes.new.entries ≡ option_or (says_item id edit.now) (at id changes.old.entries)) }
+    ensures { OnOk result ((id : ℕ)
+        → at id changes.new.entries
+        ≡ option_or (says_item id edit.now) (at id changes.old.entries)) }
 {
     match edit {
         Edit::PutItem { row } => note_row(changes, row),
@@ -39,14 +42,17 @@ fn note(changes: &mut Changes, edit: &Edit) -> Result<(), AllocError>
 }
 
 fn note_row(changes: &mut Changes, row: &SharedRow) -> Result<(), AllocError>
-    ensures { OnOk result ((id : ℕ) → at id changes.new.entries ≡ (if row.now.id == id then Some (Some row.now) else at id changes.old.entries)) }
+    ensures { OnOk result ((id : ℕ)
+        → at id changes.new.entries
+        ≡ (if row.now.id == id then Some (Some row.now) else at id changes.old.entries)) }
 {
     let shared = row.share()?;
     set(changes, row.row().id, Some(shared))
 }
 
 fn set(changes: &mut Changes, id: u32, row: Option<SharedRow>) -> Result<(), AllocError>
-    ensures { OnOk result ((q : ℕ) → at q changes.new.entries ≡ (if id == q then Some row else at q changes.old.entries)) }
+    ensures { OnOk result ((q : ℕ)
+        → at q changes.new.entries ≡ (if id == q then Some row else at q changes.old.entries)) }
 {
     match changes.insert(id, row) {
         Ok(_) => Ok(()),

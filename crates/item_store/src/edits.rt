@@ -45,9 +45,12 @@ pub(crate) fn take_in(
     revision: u32,
 ) -> Result<u32, AllocError>
     requires { AreValid edits.now }
-    ensures items { IfOk result (λ now. (es : List Edit) → AreItems revision es held.old count → AreItems revision (es ++ edits.now) held.new now) }
-    ensures before { (q base : ℕ) → base < revision → value_at held.new q base ≡ value_at held.old q base }
-    ensures others { (q base : ℕ) → list_any (names_item q) edits.now ≡ false → value_at held.new q base ≡ value_at held.old q base }
+    ensures items { IfOk result (λ now. (es : List Edit) → AreItems revision es held.old count
+        → AreItems revision (es ++ edits.now) held.new now) }
+    ensures before { (q base : ℕ) → base < revision
+        → value_at held.new q base ≡ value_at held.old q base }
+    ensures others { (q base : ℕ) → list_any (names_item q) edits.now ≡ false
+        → value_at held.new q base ≡ value_at held.old q base }
 {
     for edit in edits {
         match take_in_one(held, count, edit, revision) {
@@ -65,9 +68,12 @@ fn take_in_one(
     revision: u32,
 ) -> Result<u32, AllocError>
     requires { IsValid edit.now }
-    ensures items { IfOk result (λ now. (es : List Edit) → AreItems revision es held.old count → AreItems revision (es ++ edit.now ∷ []) held.new now) }
-    ensures before { (q base : ℕ) → base < revision → value_at held.new q base ≡ value_at held.old q base }
-    ensures others { (q base : ℕ) → names_item q edit.now ≡ false → value_at held.new q base ≡ value_at held.old q base }
+    ensures items { IfOk result (λ now. (es : List Edit) → AreItems revision es held.old count
+        → AreItems revision (es ++ edit.now ∷ []) held.new now) }
+    ensures before { (q base : ℕ) → base < revision
+        → value_at held.new q base ≡ value_at held.old q base }
+    ensures others { (q base : ℕ) → names_item q edit.now ≡ false
+        → value_at held.new q base ≡ value_at held.old q base }
 {
     match edit {
         Edit::PutItem { row } => put(held, count, row, revision),
@@ -83,9 +89,15 @@ fn put(
     row: &SharedRow,
     revision: u32,
 ) -> Result<u32, AllocError>
-    ensures rows { OnOk result ((q base : ℕ) → value_at held.new q base ≡ (if (row.now.id == q) && nat_le revision base then Some row.now else value_at held.old q base)) }
-    ensures unchanged { OnErr result ((q base : ℕ) → value_at held.new q base ≡ value_at held.old q base) }
-    ensures counted { IfOk result (λ now. (n : ℕ) → n < 2 ^ 32 → n + (if is_some (newest_value (versions_at row.now.id held.old)) then 1 else 0) ≡ count + 1 → now ≡ n) }
+    ensures rows { OnOk result ((q base : ℕ)
+        → value_at held.new q base
+        ≡ (if (row.now.id == q) && nat_le revision base then Some row.now
+        else value_at held.old q base)) }
+    ensures unchanged { OnErr result ((q base : ℕ)
+        → value_at held.new q base ≡ value_at held.old q base) }
+    ensures counted { IfOk result (λ now. (n : ℕ) → n < 2 ^ 32
+        → n + (if is_some (newest_value (versions_at row.now.id held.old)) then 1 else 0)
+        ≡ count + 1 → now ≡ n) }
 {
     let id = row.row().id;
     match row.share() {
@@ -102,9 +114,14 @@ fn set(
     row: Option<SharedRow>,
     revision: u32,
 ) -> Result<u32, AllocError>
-    ensures rows { OnOk result ((q base : ℕ) → value_at held.new q base ≡ (if (id == q) && nat_le revision base then row else value_at held.old q base)) }
-    ensures unchanged { OnErr result ((q base : ℕ) → value_at held.new q base ≡ value_at held.old q base) }
-    ensures counted { IfOk result (λ now. (n : ℕ) → n < 2 ^ 32 → n + (if is_some (newest_value (versions_at id held.old)) then 1 else 0) ≡ count + (if is_some row then 1 else 0) → now ≡ n) }
+    ensures rows { OnOk result ((q base : ℕ)
+        → value_at held.new q base
+        ≡ (if (id == q) && nat_le revision base then row else value_at held.old q base)) }
+    ensures unchanged { OnErr result ((q base : ℕ)
+        → value_at held.new q base ≡ value_at held.old q base) }
+    ensures counted { IfOk result (λ now. (n : ℕ) → n < 2 ^ 32
+        → n + (if is_some (newest_value (versions_at id held.old)) then 1 else 0)
+        ≡ count + (if is_some row then 1 else 0) → now ≡ n) }
 {
     let is = row.is_some();
     match held.put_value(id, revision, row) {
@@ -115,7 +132,8 @@ fn set(
 
 // The number of rows after one was added or removed. Each of fewer than 2 ^ 32 has its own id.
 fn counted(count: u32, was: bool, is: bool) -> u32
-    ensures { (n : ℕ) → n < 2 ^ 32 → n + (if was then 1 else 0) ≡ count + (if is then 1 else 0) → result ≡ n }
+    ensures { (n : ℕ) → n < 2 ^ 32 → n + (if was then 1 else 0) ≡ count + (if is then 1 else 0)
+        → result ≡ n }
 {
     if was == is {
         return count;

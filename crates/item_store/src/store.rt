@@ -95,7 +95,8 @@ impl ItemStore {
     pub fn apply(&mut self, edits: &[Edit], revision: u32) -> Result<(), AllocError>
         requires next { revision ≡ self.old.revision + 1 }
         requires valid { AreValid edits.now }
-        ensures stands { OnOk result ((bs : List (List Edit)) → StandsFor bs self.old → StandsFor (bs ++ edits.now ∷ []) self.new) }
+        ensures stands { OnOk result ((bs : List (List Edit)) → StandsFor bs self.old
+            → StandsFor (bs ++ edits.now ∷ []) self.new) }
         ensures undo { OnOk result (self.new.can_undo ≡ true) }
         ensures keep { self.new.keep ≡ self.old.keep }
         ensures unchanged { OnErr result (IsUnchanged self.old self.new) }
@@ -114,8 +115,10 @@ impl ItemStore {
     ) -> Result<(), AllocError>
         requires next { revision ≡ self.old.revision + 1 }
         requires valid { AreValid batch.now }
-        requires present { (bs : List (List Edit)) → StandsFor bs self.old → present ≡ library (edits (bs ++ batch.now ∷ [])) }
-        ensures stands { OnOk result ((bs : List (List Edit)) → StandsFor bs self.old → StandsFor (bs ++ batch.now ∷ []) self.new) }
+        requires present { (bs : List (List Edit)) → StandsFor bs self.old
+            → present ≡ library (edits (bs ++ batch.now ∷ [])) }
+        ensures stands { OnOk result ((bs : List (List Edit)) → StandsFor bs self.old
+            → StandsFor (bs ++ batch.now ∷ []) self.new) }
         ensures undo { OnOk result (self.new.can_undo ≡ true) }
         ensures keep { self.new.keep ≡ self.old.keep }
         ensures unchanged { OnErr result (IsUnchanged self.old self.new) }
@@ -148,7 +151,8 @@ impl ItemStore {
     /// Reverts the last batch, once after an `apply` that succeeded. Does not allocate.
     pub fn undo(&mut self)
         requires { self.old.can_undo ≡ true }
-        ensures stands { (bs : List (List Edit)) (batch : List Edit) → StandsFor (bs ++ batch ∷ []) self.old → StandsFor bs self.new }
+        ensures stands { (bs : List (List Edit)) (batch : List Edit)
+            → StandsFor (bs ++ batch ∷ []) self.old → StandsFor bs self.new }
         ensures keep { self.new.keep ≡ self.old.keep }
         ensures once { self.new.can_undo ≡ false }
     {
@@ -161,7 +165,8 @@ impl ItemStore {
 
     /// Returns the item of an id.
     pub fn get(&self, id: u32) -> Option<&Row>
-        ensures { (bs : List (List Edit)) → StandsFor bs self.now → option_copied result ≡ item_at (edits bs) id }
+        ensures { (bs : List (List Edit)) → StandsFor bs self.now
+            → option_copied result ≡ item_at (edits bs) id }
     {
         match self.held.newest(id) {
             Some(shared) => Some(shared.row()),
@@ -171,7 +176,8 @@ impl ItemStore {
 
     /// Returns the item of an id as a further owner of it.
     pub fn shared(&self, id: u32) -> Result<Option<SharedRow>, AllocError>
-        ensures { IfOk result (λ row. (bs : List (List Edit)) → StandsFor bs self.now → row ≡ item_at (edits bs) id) }
+        ensures { IfOk result (λ row. (bs : List (List Edit)) → StandsFor bs self.now
+            → row ≡ item_at (edits bs) id) }
     {
         match self.held.newest(id) {
             Some(shared) => Ok(Some(shared.share()?)),
@@ -183,7 +189,8 @@ impl ItemStore {
     pub fn version_at(&self, id: u32, base: u32) -> Option<&Row>
         requires from { floor_of self.now.keep self.now.revision ≤ base }
         requires to { base ≤ self.now.revision }
-        ensures { (bs : List (List Edit)) → StandsFor bs self.now → option_copied result ≡ item_at (edits (up_to bs base)) id }
+        ensures { (bs : List (List Edit)) → StandsFor bs self.now
+            → option_copied result ≡ item_at (edits (up_to bs base)) id }
     {
         match self.held.value_at(id, base) {
             Some(shared) => Some(shared.row()),
@@ -193,7 +200,8 @@ impl ItemStore {
 
     /// Returns the number of items.
     pub fn count(&self) -> u32
-        ensures { (bs : List (List Edit)) → StandsFor bs self.now → result ≡ length (library (edits bs)) }
+        ensures { (bs : List (List Edit)) → StandsFor bs self.now
+            → result ≡ length (library (edits bs)) }
     {
         self.count
     }
@@ -213,21 +221,24 @@ impl ItemStore {
 
     /// Returns all items by their ids.
     pub fn rows(&self) -> &RowSheets
-        ensures { (bs : List (List Edit)) → StandsFor bs self.now → result.now ≡ library (edits bs) }
+        ensures { (bs : List (List Edit)) → StandsFor bs self.now
+            → result.now ≡ library (edits bs) }
     {
         &self.present
     }
 
     /// Returns all items as a further owner of them. Copies a pointer for each sheet, and reads no row.
     pub fn sheets(&self) -> Result<RowSheets, AllocError>
-        ensures { IfOk result (λ rows. (bs : List (List Edit)) → StandsFor bs self.now → rows ≡ library (edits bs)) }
+        ensures { IfOk result (λ rows. (bs : List (List Edit)) → StandsFor bs self.now
+            → rows ≡ library (edits bs)) }
     {
         self.present.share()
     }
 
     /// Returns the ids of all items, ascending.
     pub fn ids(&self) -> Result<Vec<u32>, AllocError>
-        ensures { IfOk result (λ ids. (bs : List (List Edit)) → StandsFor bs self.now → ids.items ≡ keys_of (library (edits bs))) }
+        ensures { IfOk result (λ ids. (bs : List (List Edit)) → StandsFor bs self.now
+            → ids.items ≡ keys_of (library (edits bs))) }
     {
         self.held.keys()
     }
@@ -236,7 +247,8 @@ impl ItemStore {
     pub fn changed_since(&self, base: u32) -> Result<Vec<u32>, AllocError>
         requires from { floor_of self.now.keep self.now.revision ≤ base }
         requires to { base ≤ self.now.revision }
-        ensures { IfOk result (λ ids. (bs : List (List Edit)) → StandsFor bs self.now → ids.items ≡ touched bs Items base) }
+        ensures { IfOk result (λ ids. (bs : List (List Edit)) → StandsFor bs self.now
+            → ids.items ≡ touched bs Items base) }
     {
         let passed = base.saturating_sub(self.low) as usize;
         let ids = match ids_after(self.alloc, &self.named, passed) {

@@ -20,7 +20,8 @@ pub(crate) fn find<'a, T>(
     key: u32,
     base: u32,
 ) -> Option<&'a Version<T>>
-    ensures { option_copied result ≡ found (apart_at newest.now.entries older.now.entries key) base }
+    ensures { option_copied result
+        ≡ found (apart_at newest.now.entries older.now.entries key) base }
 {
     match newest.get(&key) {
         Some(last) => {
@@ -59,7 +60,8 @@ pub(crate) fn value_at<'a, T>(
     key: u32,
     base: u32,
 ) -> Option<&'a T>
-    ensures { option_copied result ≡ value_in (apart_at newest.now.entries older.now.entries key) base }
+    ensures { option_copied result
+        ≡ value_in (apart_at newest.now.entries older.now.entries key) base }
 {
     match find(newest, older, key, base) {
         Some(version) => version.value.as_ref(),
@@ -68,7 +70,8 @@ pub(crate) fn value_at<'a, T>(
 }
 
 pub(crate) fn newest<T>(newest: &Newest<T>, key: u32) -> Option<&T>
-    ensures { (older : _) → option_copied result ≡ newest_value (versions_of (at key newest.now.entries) older) }
+    ensures { (older : _) → option_copied result
+        ≡ newest_value (versions_of (at key newest.now.entries) older) }
 {
     match newest.get(&key) {
         Some(last) => last.value.as_ref(),
@@ -83,8 +86,13 @@ fn put_first<T: Drop>(
     version: Version<T>,
 ) -> Result<(), AllocError>
     requires { at key newest.old.entries ≡ None }
-    ensures found { OnOk result ((q base : ℕ) → found (apart_at newest.new.entries older.new.entries q) base ≡ (if (key == q) && nat_le version.revision base then Some version else found (apart_at newest.old.entries older.old.entries q) base)) }
-    ensures unchanged { OnErr result ((q base : ℕ) → value_in (apart_at newest.new.entries older.new.entries q) base ≡ value_in (apart_at newest.old.entries older.old.entries q) base) }
+    ensures found { OnOk result ((q base : ℕ)
+        → found (apart_at newest.new.entries older.new.entries q) base
+        ≡ (if (key == q) && nat_le version.revision base then Some version
+        else found (apart_at newest.old.entries older.old.entries q) base)) }
+    ensures unchanged { OnErr result ((q base : ℕ)
+        → value_in (apart_at newest.new.entries older.new.entries q) base
+        ≡ value_in (apart_at newest.old.entries older.old.entries q) base) }
 {
     clear(older, key);
     match newest.insert(key, version) {
@@ -102,9 +110,15 @@ pub(crate) fn put_value<T: Drop>(
     key: u32,
     version: Version<T>,
 ) -> Result<bool, AllocError>
-    ensures was { IfOk result (λ was. was ≡ is_some (newest_value (apart_at newest.old.entries older.old.entries key))) }
-    ensures values { OnOk result ((q base : ℕ) → value_in (apart_at newest.new.entries older.new.entries q) base ≡ (if (key == q) && nat_le version.revision base then version.value else value_in (apart_at newest.old.entries older.old.entries q) base)) }
-    ensures unchanged { OnErr result ((q base : ℕ) → value_in (apart_at newest.new.entries older.new.entries q) base ≡ value_in (apart_at newest.old.entries older.old.entries q) base) }
+    ensures was { IfOk result (λ was. was
+        ≡ is_some (newest_value (apart_at newest.old.entries older.old.entries key))) }
+    ensures values { OnOk result ((q base : ℕ)
+        → value_in (apart_at newest.new.entries older.new.entries q) base
+        ≡ (if (key == q) && nat_le version.revision base then version.value
+        else value_in (apart_at newest.old.entries older.old.entries q) base)) }
+    ensures unchanged { OnErr result ((q base : ℕ)
+        → value_in (apart_at newest.new.entries older.new.entries q) base
+        ≡ value_in (apart_at newest.old.entries older.old.entries q) base) }
 {
     match newest.get_mut(&key) {
         Some(last) => {
@@ -126,8 +140,13 @@ fn put_first_value<T: Drop>(
 ) -> Result<bool, AllocError>
     requires { at key newest.old.entries ≡ None }
     ensures was { IfOk result (λ was. was ≡ false) }
-    ensures values { OnOk result ((q base : ℕ) → value_in (apart_at newest.new.entries older.new.entries q) base ≡ (if (key == q) && nat_le version.revision base then version.value else value_in (apart_at newest.old.entries older.old.entries q) base)) }
-    ensures unchanged { OnErr result ((q base : ℕ) → value_in (apart_at newest.new.entries older.new.entries q) base ≡ value_in (apart_at newest.old.entries older.old.entries q) base) }
+    ensures values { OnOk result ((q base : ℕ)
+        → value_in (apart_at newest.new.entries older.new.entries q) base
+        ≡ (if (key == q) && nat_le version.revision base then version.value
+        else value_in (apart_at newest.old.entries older.old.entries q) base)) }
+    ensures unchanged { OnErr result ((q base : ℕ)
+        → value_in (apart_at newest.new.entries older.new.entries q) base
+        ≡ value_in (apart_at newest.old.entries older.old.entries q) base) }
 {
     if version.value.is_none() {
         return Ok(false);
@@ -145,7 +164,10 @@ pub(crate) fn take_back<T: Drop>(
     key: u32,
     revision: u32,
 )
-    ensures { 1 ≤ revision → (q base : ℕ) → value_in (apart_at newest.new.entries older.new.entries q) base ≡ value_in (apart_at newest.old.entries older.old.entries q) (if key == q then min base (revision - 1) else base) }
+    ensures { 1 ≤ revision → (q base : ℕ)
+        → value_in (apart_at newest.new.entries older.new.entries q) base
+        ≡ value_in (apart_at newest.old.entries older.old.entries q)
+        (if key == q then min base (revision - 1) else base) }
 {
     if step_back_at(newest, older, key, revision) {
         tidy(older, key);
@@ -161,8 +183,12 @@ fn step_back_at<T: Drop>(
     key: u32,
     revision: u32,
 ) -> bool
-    ensures here { 1 ≤ revision → (base : ℕ) → found (if result then apart_at newest.new.entries older.new.entries key else []) base ≡ found (apart_at newest.old.entries older.old.entries key) (min base (revision - 1)) }
-    ensures others { (q : ℕ) → (key == q) ≡ false → apart_at newest.new.entries older.new.entries q ≡ apart_at newest.old.entries older.old.entries q }
+    ensures here { 1 ≤ revision → (base : ℕ)
+        → found (if result then apart_at newest.new.entries older.new.entries key else []) base
+        ≡ found (apart_at newest.old.entries older.old.entries key) (min base (revision - 1)) }
+    ensures others { (q : ℕ) → (key == q) ≡ false
+        → apart_at newest.new.entries older.new.entries q
+        ≡ apart_at newest.old.entries older.old.entries q }
 {
     match newest.get_mut(&key) {
         Some(last) => step_back_from(last, older, key, revision),
@@ -176,8 +202,11 @@ fn step_back_from<T: Drop>(
     key: u32,
     revision: u32,
 ) -> bool
-    ensures here { 1 ≤ revision → (base : ℕ) → found (if result then last.new ∷ older_at key older.new.entries else []) base ≡ found (last.old ∷ older_at key older.old.entries) (min base (revision - 1)) }
-    ensures others { (q : ℕ) → (key == q) ≡ false → older_at q older.new.entries ≡ older_at q older.old.entries }
+    ensures here { 1 ≤ revision → (base : ℕ)
+        → found (if result then last.new ∷ older_at key older.new.entries else []) base
+        ≡ found (last.old ∷ older_at key older.old.entries) (min base (revision - 1)) }
+    ensures others { (q : ℕ) → (key == q) ≡ false
+        → older_at q older.new.entries ≡ older_at q older.old.entries }
 {
     match older.get_mut(&key) {
         Some(versions) => step_back(last, versions, revision),
@@ -186,7 +215,8 @@ fn step_back_from<T: Drop>(
 }
 
 fn remove<T: Drop>(newest: &mut Newest<T>, key: u32)
-    ensures { (q : ℕ) → at q newest.new.entries ≡ (if key == q then None else at q newest.old.entries) }
+    ensures { (q : ℕ) → at q newest.new.entries
+        ≡ (if key == q then None else at q newest.old.entries) }
 {
     newest.remove(&key);
 }
@@ -198,8 +228,12 @@ pub(crate) fn pop_past<T: Drop>(
     key: u32,
     low: u32,
 ) -> Option<Version<T>>
-    ensures values { (q base : ℕ) → low ≤ base → value_in (apart_at newest.now.entries older.new.entries q) base ≡ value_in (apart_at newest.now.entries older.old.entries q) base }
-    ensures fewer { OnSome result (length (apart_at newest.now.entries older.new.entries key) < length (apart_at newest.now.entries older.old.entries key)) }
+    ensures values { (q base : ℕ) → low ≤ base
+        → value_in (apart_at newest.now.entries older.new.entries q) base
+        ≡ value_in (apart_at newest.now.entries older.old.entries q) base }
+    ensures fewer { OnSome result
+        (length (apart_at newest.now.entries older.new.entries key)
+        < length (apart_at newest.now.entries older.old.entries key)) }
 {
     match newest.get(&key) {
         Some(last) => pop_behind(last.revision, older, key, low),
@@ -213,9 +247,13 @@ fn pop_behind<T: Drop>(
     key: u32,
     low: u32,
 ) -> Option<Version<T>>
-    ensures here { (now : Version T) (base : ℕ) → now.revision ≡ revision → low ≤ base → found (now ∷ older_at key older.new.entries) base ≡ found (now ∷ older_at key older.old.entries) base }
-    ensures others { (q : ℕ) → (key == q) ≡ false → older_at q older.new.entries ≡ older_at q older.old.entries }
-    ensures fewer { OnSome result (length (older_at key older.new.entries) < length (older_at key older.old.entries)) }
+    ensures here { (now : Version T) (base : ℕ) → now.revision ≡ revision → low ≤ base
+        → found (now ∷ older_at key older.new.entries) base
+        ≡ found (now ∷ older_at key older.old.entries) base }
+    ensures others { (q : ℕ) → (key == q) ≡ false
+        → older_at q older.new.entries ≡ older_at q older.old.entries }
+    ensures fewer { OnSome result
+        (length (older_at key older.new.entries) < length (older_at key older.old.entries)) }
 {
     let popped = pop_at(revision, older, key, low);
     tidy(older, key);
@@ -223,9 +261,13 @@ fn pop_behind<T: Drop>(
 }
 
 fn pop_at<T: Drop>(revision: u32, older: &mut Older<T>, key: u32, low: u32) -> Option<Version<T>>
-    ensures here { (now : Version T) (base : ℕ) → now.revision ≡ revision → low ≤ base → found (now ∷ older_at key older.new.entries) base ≡ found (now ∷ older_at key older.old.entries) base }
-    ensures others { (q : ℕ) → (key == q) ≡ false → older_at q older.new.entries ≡ older_at q older.old.entries }
-    ensures fewer { OnSome result (length (older_at key older.new.entries) < length (older_at key older.old.entries)) }
+    ensures here { (now : Version T) (base : ℕ) → now.revision ≡ revision → low ≤ base
+        → found (now ∷ older_at key older.new.entries) base
+        ≡ found (now ∷ older_at key older.old.entries) base }
+    ensures others { (q : ℕ) → (key == q) ≡ false
+        → older_at q older.new.entries ≡ older_at q older.old.entries }
+    ensures fewer { OnSome result
+        (length (older_at key older.new.entries) < length (older_at key older.old.entries)) }
 {
     match older.get_mut(&key) {
         Some(versions) => pop_oldest(revision, versions, low),
@@ -234,14 +276,18 @@ fn pop_at<T: Drop>(revision: u32, older: &mut Older<T>, key: u32, low: u32) -> O
 }
 
 fn trim<T: Drop>(newest: &Newest<T>, older: &mut Older<T>, key: u32, low: u32)
-    ensures { (q base : ℕ) → low ≤ base → value_in (apart_at newest.now.entries older.new.entries q) base ≡ value_in (apart_at newest.now.entries older.old.entries q) base }
+    ensures { (q base : ℕ) → low ≤ base
+        → value_in (apart_at newest.now.entries older.new.entries q) base
+        ≡ value_in (apart_at newest.now.entries older.old.entries q) base }
 {
     while let Some(_) = pop_past(newest, older, key, low) {}
 }
 
 // Removes all versions of `key` that no revision from `low` on finds, and the key if it has no value from then on.
 pub(crate) fn prune<T: Drop>(newest: &mut Newest<T>, older: &mut Older<T>, key: u32, low: u32)
-    ensures { (q base : ℕ) → low ≤ base → value_in (apart_at newest.new.entries older.new.entries q) base ≡ value_in (apart_at newest.old.entries older.old.entries q) base }
+    ensures { (q base : ℕ) → low ≤ base
+        → value_in (apart_at newest.new.entries older.new.entries q) base
+        ≡ value_in (apart_at newest.old.entries older.old.entries q) base }
 {
     trim(newest, older, key, low);
     if is_gone(newest, key, low) {
@@ -250,14 +296,16 @@ pub(crate) fn prune<T: Drop>(newest: &mut Newest<T>, older: &mut Older<T>, key: 
 }
 
 fn remove_all<T: Drop>(newest: &mut Newest<T>, older: &mut Older<T>, key: u32)
-    ensures { (q : ℕ) → apart_at newest.new.entries older.new.entries q ≡ (if key == q then [] else apart_at newest.old.entries older.old.entries q) }
+    ensures { (q : ℕ) → apart_at newest.new.entries older.new.entries q
+        ≡ (if key == q then [] else apart_at newest.old.entries older.old.entries q) }
 {
     remove(newest, key);
     clear(older, key);
 }
 
 fn is_gone<T>(newest: &Newest<T>, key: u32, low: u32) -> bool
-    ensures { result ≡ true → (older : _) (base : ℕ) → low ≤ base → value_in (versions_of (at key newest.now.entries) older) base ≡ None }
+    ensures { result ≡ true → (older : _) (base : ℕ) → low ≤ base
+        → value_in (versions_of (at key newest.now.entries) older) base ≡ None }
 {
     match newest.get(&key) {
         Some(last) => last.value.is_none() && last.revision <= low,

@@ -20,8 +20,13 @@ pub(crate) fn put(
     key: u32,
     version: Version<u32>,
 ) -> Result<(), AllocError>
-    ensures values { OnOk result ((q base : ℕ) → value_in (apart_at newest.new.entries older.new.entries q) base ≡ (if (key == q) && nat_le version.revision base then version.value else value_in (apart_at newest.old.entries older.old.entries q) base)) }
-    ensures unchanged { OnErr result ((q base : ℕ) → value_in (apart_at newest.new.entries older.new.entries q) base ≡ value_in (apart_at newest.old.entries older.old.entries q) base) }
+    ensures values { OnOk result ((q base : ℕ)
+        → value_in (apart_at newest.new.entries older.new.entries q) base
+        ≡ (if (key == q) && nat_le version.revision base then version.value
+        else value_in (apart_at newest.old.entries older.old.entries q) base)) }
+    ensures unchanged { OnErr result ((q base : ℕ)
+        → value_in (apart_at newest.new.entries older.new.entries q) base
+        ≡ value_in (apart_at newest.old.entries older.old.entries q) base) }
 {
     if is_said(newest, key, &version) {
         return Ok(());
@@ -34,7 +39,8 @@ pub(crate) fn put(
 
 // Returns whether the newest version of `key` has the value of `version` and is not later.
 fn is_said(newest: &Newest<u32>, key: u32, version: &Version<u32>) -> bool
-    ensures { result ≡ true → (older : List (Version ℕ)) (base : ℕ) → version.now.revision ≤ base → value_in (versions_of (at key newest.now.entries) older) base ≡ version.now.value }
+    ensures { result ≡ true → (older : List (Version ℕ)) (base : ℕ) → version.now.revision ≤ base
+        → value_in (versions_of (at key newest.now.entries) older) base ≡ version.now.value }
 {
     match newest.get(&key) {
         Some(last) => last.revision <= version.revision && is_same(last.value, version.value),
@@ -63,7 +69,8 @@ fn is_number(value: Option<u32>, number: u32) -> bool
 
 // Returns whether some version of `key` has the number.
 pub(crate) fn is_held(newest: &Newest<u32>, older: &Older<u32>, key: u32, number: u32) -> bool
-    ensures { (base : ℕ) → value_in (apart_at newest.now.entries older.now.entries key) base ≡ Some number → result ≡ true }
+    ensures { (base : ℕ) → value_in (apart_at newest.now.entries older.now.entries key) base
+        ≡ Some number → result ≡ true }
 {
     match newest.get(&key) {
         Some(last) => is_number(last.value, number) || is_held_before(older, key, number),
@@ -72,7 +79,8 @@ pub(crate) fn is_held(newest: &Newest<u32>, older: &Older<u32>, key: u32, number
 }
 
 fn is_held_before(older: &Older<u32>, key: u32, number: u32) -> bool
-    ensures { (base : ℕ) → value_in (older_at key older.now.entries) base ≡ Some number → result ≡ true }
+    ensures { (base : ℕ) → value_in (older_at key older.now.entries) base ≡ Some number
+        → result ≡ true }
 {
     match older.get(&key) {
         Some(versions) => is_among(versions, number),

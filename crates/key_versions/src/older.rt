@@ -20,7 +20,8 @@ pub(crate) fn make_room<T: Drop>(
     key: u32,
 ) -> Result<(), AllocError>
     ensures same { (q : ℕ) → older_at q older.new.entries ≡ older_at q older.old.entries }
-    ensures room { OnOk result (IsSomeAnd (at key older.new.entries) (λ versions. deque_len versions < deque_capacity versions)) }
+    ensures room { OnOk result (IsSomeAnd (at key older.new.entries)
+        (λ versions. deque_len versions < deque_capacity versions)) }
 {
     match older.get_mut(&key) {
         Some(versions) => versions.reserve(1),
@@ -31,7 +32,8 @@ pub(crate) fn make_room<T: Drop>(
 fn add_room<T: Drop>(alloc: Global, older: &mut Older<T>, key: u32) -> Result<(), AllocError>
     requires { at key older.old.entries ≡ None }
     ensures same { (q : ℕ) → older_at q older.new.entries ≡ older_at q older.old.entries }
-    ensures room { OnOk result (IsSomeAnd (at key older.new.entries) (λ versions. deque_len versions < deque_capacity versions)) }
+    ensures room { OnOk result (IsSomeAnd (at key older.new.entries)
+        (λ versions. deque_len versions < deque_capacity versions)) }
 {
     let mut versions = VecDeque::new(alloc);
     match versions.reserve(1) {
@@ -46,9 +48,11 @@ fn add_room<T: Drop>(alloc: Global, older: &mut Older<T>, key: u32) -> Result<()
 
 // Puts `version` before the others of `key`, in reserved capacity.
 pub(crate) fn push<T: Drop>(older: &mut Older<T>, key: u32, version: Version<T>)
-    requires { IsSomeAnd (at key older.old.entries) (λ versions. deque_len versions < deque_capacity versions) }
+    requires { IsSomeAnd (at key older.old.entries)
+        (λ versions. deque_len versions < deque_capacity versions) }
     ensures here { older_at key older.new.entries ≡ version ∷ older_at key older.old.entries }
-    ensures others { (q : ℕ) → (key == q) ≡ false → older_at q older.new.entries ≡ older_at q older.old.entries }
+    ensures others { (q : ℕ) → (key == q) ≡ false
+        → older_at q older.new.entries ≡ older_at q older.old.entries }
 {
     match older.get_mut(&key) {
         Some(versions) => versions.push_front_reserved(version),
@@ -76,7 +80,8 @@ fn is_empty<T>(older: &Older<T>, key: u32) -> bool
 
 // Removes the entry of `key`.
 pub(crate) fn clear<T: Drop>(older: &mut Older<T>, key: u32)
-    ensures { (q : ℕ) → older_at q older.new.entries ≡ (if key == q then [] else older_at q older.old.entries) }
+    ensures { (q : ℕ) → older_at q older.new.entries
+        ≡ (if key == q then [] else older_at q older.old.entries) }
 {
     older.remove(&key);
 }

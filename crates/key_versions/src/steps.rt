@@ -19,10 +19,15 @@ pub(crate) fn put_over<T: Drop>(
     key: u32,
     version: Version<T>,
 ) -> Result<(), AllocError>
-    ensures found { OnOk result ((base : ℕ) → found (newest.new ∷ older_at key older.new.entries) base ≡ (if nat_le version.revision base then Some version else found (newest.old ∷ older_at key older.old.entries) base)) }
-    ensures others { (q : ℕ) → (key == q) ≡ false → older_at q older.new.entries ≡ older_at q older.old.entries }
+    ensures found { OnOk result ((base : ℕ)
+        → found (newest.new ∷ older_at key older.new.entries) base
+        ≡ (if nat_le version.revision base then Some version
+        else found (newest.old ∷ older_at key older.old.entries) base)) }
+    ensures others { (q : ℕ) → (key == q) ≡ false
+        → older_at q older.new.entries ≡ older_at q older.old.entries }
     ensures newest_left { OnErr result (newest.new ≡ newest.old) }
-    ensures older_left { OnErr result (older_at key older.new.entries ≡ older_at key older.old.entries) }
+    ensures older_left { OnErr result
+        (older_at key older.new.entries ≡ older_at key older.old.entries) }
 {
     if newest.revision == version.revision {
         *newest = version;
@@ -43,7 +48,9 @@ pub(crate) fn step_back<T: Drop>(
     older: &mut VecDeque<Version<T>>,
     revision: u32,
 ) -> bool
-    ensures { 1 ≤ revision → (base : ℕ) → found (if result then newest.new ∷ older.new.items else []) base ≡ found (newest.old ∷ older.old.items) (min base (revision - 1)) }
+    ensures { 1 ≤ revision → (base : ℕ)
+        → found (if result then newest.new ∷ older.new.items else []) base
+        ≡ found (newest.old ∷ older.old.items) (min base (revision - 1)) }
 {
     while revision <= newest.revision {
         match older.pop_front() {
@@ -60,7 +67,8 @@ pub(crate) fn pop_oldest<T: Drop>(
     older: &mut VecDeque<Version<T>>,
     low: u32,
 ) -> Option<Version<T>>
-    ensures past { (now : Version T) (base : ℕ) → now.revision ≡ newest → low ≤ base → found (now ∷ older.new.items) base ≡ found (now ∷ older.old.items) base }
+    ensures past { (now : Version T) (base : ℕ) → now.revision ≡ newest → low ≤ base
+        → found (now ∷ older.new.items) base ≡ found (now ∷ older.old.items) base }
     ensures fewer { OnSome result (length older.new.items < length older.old.items) }
 {
     if is_past(newest, older, low) {
@@ -73,7 +81,9 @@ pub(crate) fn pop_oldest<T: Drop>(
 #[tactic(auto, using(crate::proofs::FoundFacts::past_one, crate::proofs::FoundFacts::past_more))]
 fn is_past<T>(newest: u32, older: &VecDeque<Version<T>>, low: u32) -> bool
     ensures some { result ≡ true → 0 < length older.now.items }
-    ensures past { result ≡ true → (now : Version T) (base : ℕ) → now.revision ≡ newest → low ≤ base → found (now ∷ take (length older.now.items - 1) older.now.items) base ≡ found (now ∷ older.now.items) base }
+    ensures past { result ≡ true → (now : Version T) (base : ℕ) → now.revision ≡ newest → low ≤ base
+        → found (now ∷ take (length older.now.items - 1) older.now.items) base
+        ≡ found (now ∷ older.now.items) base }
 {
     let len = older.len();
     if len == 0 {

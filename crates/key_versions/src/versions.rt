@@ -84,8 +84,11 @@ impl<T: Drop> Versions<T> {
         value: Option<T>,
     ) -> Result<bool, AllocError>
         ensures was { IfOk result (λ was. was ≡ is_some (newest_value (versions_at key self.old))) }
-        ensures values { OnOk result ((q base : ℕ) → value_at self.new q base ≡ (if (key == q) && nat_le revision base then value else value_at self.old q base)) }
-        ensures unchanged { OnErr result ((q base : ℕ) → value_at self.new q base ≡ value_at self.old q base) }
+        ensures values { OnOk result ((q base : ℕ)
+            → value_at self.new q base
+            ≡ (if (key == q) && nat_le revision base then value else value_at self.old q base)) }
+        ensures unchanged { OnErr result ((q base : ℕ)
+            → value_at self.new q base ≡ value_at self.old q base) }
     {
         by_key::put_value(
             self.alloc,
@@ -98,14 +101,18 @@ impl<T: Drop> Versions<T> {
 
     /// Removes the versions of `key` from `revision` on. Does not allocate.
     pub fn take_back(&mut self, key: u32, revision: u32)
-        ensures { 1 ≤ revision → (q base : ℕ) → value_at self.new q base ≡ value_at self.old q (if key == q then min base (revision - 1) else base) }
+        ensures { 1 ≤ revision → (q base : ℕ)
+            → value_at self.new q base
+            ≡ value_at self.old q (if key == q then min base (revision - 1) else base) }
     {
         by_key::take_back(&mut self.newest, &mut self.older, key, revision);
     }
 
     /// Does the same for each of `keys`.
     pub fn take_back_all(&mut self, keys: &[u32], revision: u32)
-        ensures { 1 ≤ revision → (q base : ℕ) → value_at self.new q base ≡ value_at self.old q (if is_among q keys.now then min base (revision - 1) else base) }
+        ensures { 1 ≤ revision → (q base : ℕ)
+            → value_at self.new q base
+            ≡ value_at self.old q (if is_among q keys.now then min base (revision - 1) else base) }
     {
         for key in keys {
             self.take_back(*key, revision);
@@ -114,8 +121,10 @@ impl<T: Drop> Versions<T> {
 
     /// Removes the oldest version of `key`, if no revision from `low` on finds it, and returns it.
     pub fn pop_past(&mut self, key: u32, low: u32) -> Option<Version<T>>
-        ensures values { (q base : ℕ) → low ≤ base → value_at self.new q base ≡ value_at self.old q base }
-        ensures fewer { OnSome result (length (versions_at key self.new) < length (versions_at key self.old)) }
+        ensures values { (q base : ℕ) → low ≤ base
+            → value_at self.new q base ≡ value_at self.old q base }
+        ensures fewer { OnSome result
+            (length (versions_at key self.new) < length (versions_at key self.old)) }
     {
         by_key::pop_past(&self.newest, &mut self.older, key, low)
     }
@@ -147,8 +156,11 @@ impl Versions<u32> {
         revision: u32,
         number: Option<u32>,
     ) -> Result<(), AllocError>
-        ensures values { OnOk result ((q base : ℕ) → value_at self.new q base ≡ (if (key == q) && nat_le revision base then number else value_at self.old q base)) }
-        ensures unchanged { OnErr result ((q base : ℕ) → value_at self.new q base ≡ value_at self.old q base) }
+        ensures values { OnOk result ((q base : ℕ)
+            → value_at self.new q base
+            ≡ (if (key == q) && nat_le revision base then number else value_at self.old q base)) }
+        ensures unchanged { OnErr result ((q base : ℕ)
+            → value_at self.new q base ≡ value_at self.old q base) }
     {
         numbers::put(
             self.alloc,

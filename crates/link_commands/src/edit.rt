@@ -112,9 +112,12 @@ fn sent<I: Source, K: Link>(
     link: &mut K,
 ) -> Result<Vec<u8>, Fault<EditFault>>
     requires { K.faults link.old ≡ 0 }
-    ensures sent { IfOk result (λ bytes. (made : Pushed) × HasSent place.now stop (input_of I.Source input.old) (input_of I.Source input.new)
+    ensures sent { IfOk result (λ bytes. (made : Pushed)
+        × HasSent place.now stop (input_of I.Source input.old) (input_of I.Source input.new)
         (link_seen (K.taken link.old) (K.left link.old) (K.taken link.new) (K.faults link.new)) made × (told_of made ≡ Ok bytes.items)) }
-    ensures stops { IfErr result (λ fault. StopsSending place.now stop (input_of I.Source input.old) (input_of I.Source input.new)
+    ensures stops { IfErr result
+        (λ fault. StopsSending place.now stop (input_of I.Source input.old)
+        (input_of I.Source input.new)
         (link_seen (K.taken link.old) (K.left link.old) (K.taken link.new) (K.faults link.new)) fault) }
 {
     if stop {
@@ -136,7 +139,8 @@ fn pushed<K: Link>(
     requires { K.faults link.old ≡ 0 }
     ensures pushed { IfOk result (λ bytes. (made : Pushed)
         × HasPushed place.now (option_copied body.entry) (link_seen (K.taken link.old) (K.left link.old) (K.taken link.new) (K.faults link.new)) made × (told_of made ≡ Ok bytes.items)) }
-    ensures stops { IfErr result (λ fault. (stop : Bool) (before after : InputSeen) → HasBody stop before after (option_copied body.entry)
+    ensures stops { IfErr result (λ fault. (stop : Bool) (before after : InputSeen)
+        → HasBody stop before after (option_copied body.entry)
         → StopsSending place.now stop before after (link_seen (K.taken link.old) (K.left link.old) (K.taken link.new) (K.faults link.new)) fault) }
 {
     match push_link(alloc, link, place, body) {
@@ -147,7 +151,8 @@ fn pushed<K: Link>(
 
 /// Returns the line of what the share made of an edit or a stop, or its refusal.
 fn told(alloc: Global, made: Pushed) -> Result<Vec<u8>, Fault<EditFault>>
-    ensures { MatchResult result (λ bytes. told_of made ≡ Ok bytes.items) (λ fault. IsToldFault made fault) }
+    ensures { MatchResult result (λ bytes. told_of made ≡ Ok bytes.items)
+        (λ fault. IsToldFault made fault) }
 {
     match made {
         Pushed::Revision(n) => Ok(number_line(alloc, b"revision ", u64::from(n))?),

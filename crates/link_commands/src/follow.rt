@@ -70,7 +70,9 @@ pub fn follow_share<W: Sink, N: Net>(
 ) -> Outcome
     requires some { 1 ≤ rounds }
     requires few { rounds ≤ 16384 }
-    ensures answered { (files : FilesSeen) (input : InputSeen) → IsLinkAnswered (follow_meaning place.now rounds (option_copied query.entry) (option_copied meta.entry) target)
+    ensures answered { (files : FilesSeen) (input : InputSeen)
+        → IsLinkAnswered (follow_meaning place.now rounds (option_copied query.entry)
+        (option_copied meta.entry) target)
         (told_over files input input
         (net_of N.Net net.old)
         (net_of N.Net net.new)

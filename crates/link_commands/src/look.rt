@@ -20,9 +20,11 @@ pub(crate) fn mirror_for(
     meta: Option<&Text>,
     target: Target,
 ) -> Result<Mirror, Fault<FollowFault>>
-    ensures asks { IfOk result (λ m. AsksMirror (option_copied query.entry) (option_copied meta.entry) target m) }
+    ensures asks { IfOk result (λ m. AsksMirror (option_copied query.entry)
+        (option_copied meta.entry) target m) }
     ensures proper { IfOk result (λ m. MayAsk m.query) }
-    ensures refused { IfErr result (λ fault. IsLookFault (option_copied query.entry) (option_copied meta.entry) fault) }
+    ensures refused { IfErr result
+        (λ fault. IsLookFault (option_copied query.entry) (option_copied meta.entry) fault) }
 {
     let query = match query_of(alloc, query) {
         Ok(query) => query,
@@ -59,7 +61,8 @@ fn query_fault(error: QueryError) -> Fault<FollowFault>
 
 fn meta_of(alloc: Global, text: Option<&Text>) -> Result<Meta, MetaError>
     ensures read { IfOk result (λ meta. meta_asked (option_copied text.entry) ≡ Some meta) }
-    ensures refused { result ≡ Err MetaError.TooMany → meta_asked (option_copied text.entry) ≡ None }
+    ensures refused { result ≡ Err MetaError.TooMany
+        → meta_asked (option_copied text.entry) ≡ None }
 {
     match text {
         Some(text) => Meta::read(alloc, text.as_str()),

@@ -46,7 +46,8 @@ pub(crate) fn follow_rounds<K: Link, W: Sink>(
     ensures followed { OnOk result ((applied : List Applied)
         × HasFollowed host.now mirror.old rounds (link_seen (K.taken link.old) (K.left link.old) (K.taken link.new) (K.faults link.new)) applied mirror.new
         × IsWritten (output_of W.Sink output.old) (output_of W.Sink output.new) (round_lines applied)) }
-    ensures ends { IfErr result (λ stop. EndsRounds host.now mirror.old rounds (link_seen (K.taken link.old) (K.left link.old) (K.taken link.new) (K.faults link.new))
+    ensures ends { IfErr result (λ stop. EndsRounds host.now mirror.old rounds
+        (link_seen (K.taken link.old) (K.left link.old) (K.taken link.new) (K.faults link.new))
         (output_of W.Sink output.old) (output_of W.Sink output.new) stop) }
 {
     let mut follower = match Follower::open(alloc, link, host) {
@@ -79,16 +80,20 @@ fn tell_round<K: Link, W: Sink>(
 ) -> Result<(), Stop>
     requires few { follower.old.calls < 65536 }
     requires asks { MayAsk mirror.old.query }
-    ensures tells { OnOk result ((m : Mirrored) (rounds : ℕ) (ls : List Listing) → mirror.old ≡ with_listings m ls
+    ensures tells { OnOk result ((m : Mirrored) (rounds : ℕ) (ls : List Listing)
+        → mirror.old ≡ with_listings m ls
         → TellsRound follower.old.host follower.old.known m mirror.new rounds ls (Asking follower.old.known ls) (place (K.taken link.old) (K.left link.old) follower.old.ahead) (place (K.taken link.new) (K.left link.new) follower.new.ahead)
         (output_of W.Sink output.old) (output_of W.Sink output.new)) }
-    ensures ends { IfErr result (λ stop. (m : Mirrored) (rounds : ℕ) (ls : List Listing) → mirror.old ≡ with_listings m ls
+    ensures ends { IfErr result (λ stop. (m : Mirrored) (rounds : ℕ) (ls : List Listing)
+        → mirror.old ≡ with_listings m ls
         → EndsRound follower.old.host follower.old.known m mirror.new rounds ls (Asking follower.old.known ls) (place (K.taken link.old) (K.left link.old) follower.old.ahead) (K.taken link.new)
         (output_of W.Sink output.old) (output_of W.Sink output.new) stop) }
-    ensures stays { (follower.new.host ≡ follower.old.host) × (follower.new.known ≡ follower.old.known) }
+    ensures stays { (follower.new.host ≡ follower.old.host)
+        × (follower.new.known ≡ follower.old.known) }
     ensures calls { follower.new.calls ≡ follower.old.calls + 1 }
     ensures query { mirror.new.query ≡ mirror.old.query }
-    ensures count { MatchResult result (λ _. K.faults link.new ≡ K.faults link.old) (λ stop. CountsStop (K.faults link.old) (K.faults link.new) stop) }
+    ensures count { MatchResult result (λ _. K.faults link.new ≡ K.faults link.old)
+        (λ stop. CountsStop (K.faults link.old) (K.faults link.new) stop) }
 {
     match follower.listing(link, mirror) {
         Ok(done) => tell(alloc, done, output),
@@ -121,16 +126,20 @@ fn tell_next<K: Link, W: Sink>(
 ) -> Result<(), Stop>
     requires few { follower.old.calls < 65535 }
     requires asks { MayAsk mirror.old.query }
-    ensures tells { OnOk result ((m : Mirrored) (rounds : ℕ) (ls : List Listing) → mirror.old ≡ with_listings m ls → (length ls == rounds) ≡ false
+    ensures tells { OnOk result ((m : Mirrored) (rounds : ℕ) (ls : List Listing)
+        → mirror.old ≡ with_listings m ls → (length ls == rounds) ≡ false
         → TellsRound follower.old.host follower.old.known m mirror.new rounds ls (Holding follower.old.known ls) (place (K.taken link.old) (K.left link.old) follower.old.ahead) (place (K.taken link.new) (K.left link.new) follower.new.ahead)
         (output_of W.Sink output.old) (output_of W.Sink output.new)) }
-    ensures ends { IfErr result (λ stop. (m : Mirrored) (rounds : ℕ) (ls : List Listing) → mirror.old ≡ with_listings m ls → (length ls == rounds) ≡ false
+    ensures ends { IfErr result (λ stop. (m : Mirrored) (rounds : ℕ) (ls : List Listing)
+        → mirror.old ≡ with_listings m ls → (length ls == rounds) ≡ false
         → EndsRound follower.old.host follower.old.known m mirror.new rounds ls (Holding follower.old.known ls) (place (K.taken link.old) (K.left link.old) follower.old.ahead) (K.taken link.new)
         (output_of W.Sink output.old) (output_of W.Sink output.new) stop) }
-    ensures stays { (follower.new.host ≡ follower.old.host) × (follower.new.known ≡ follower.old.known) }
+    ensures stays { (follower.new.host ≡ follower.old.host)
+        × (follower.new.known ≡ follower.old.known) }
     ensures calls { follower.new.calls ≤ follower.old.calls + 2 }
     ensures query { mirror.new.query ≡ mirror.old.query }
-    ensures count { MatchResult result (λ _. K.faults link.new ≡ K.faults link.old) (λ stop. CountsStop (K.faults link.old) (K.faults link.new) stop) }
+    ensures count { MatchResult result (λ _. K.faults link.new ≡ K.faults link.old)
+        (λ stop. CountsStop (K.faults link.old) (K.faults link.new) stop) }
 {
     match follower.wait(link, mirror.base()) {
         Ok(_) => tell_round(alloc, follower, link, mirror, output),

@@ -40,7 +40,8 @@ pub(crate) fn shown_rows(alloc: Global, mirror: &Mirror) -> Result<Text, AllocEr
 }
 
 fn rows_tag(alloc: Global, mirror: &Mirror) -> Result<Tag, AllocError>
-    ensures { IfOk result (λ tag. tag ≡ list (code "mlcl") (trees_of (map (λ row. row.1) mirror.now.held.rows))) }
+    ensures { IfOk result (λ tag. tag
+        ≡ list (code "mlcl") (trees_of (map (λ row. row.1) mirror.now.held.rows))) }
 {
     let mut rows = Tags::new(alloc);
     for n in 0..mirror.len() {
@@ -55,7 +56,8 @@ fn rows_tag(alloc: Global, mirror: &Mirror) -> Result<Tag, AllocError>
 // Appends the tag of row `n`.
 fn push_row(rows: &mut Tags, mirror: &Mirror, n: u64) -> Result<(), AllocError>
     requires { n < length mirror.now.held.rows }
-    ensures { OnOk result ((row : ℕ × Tree) × (slice_get mirror.now.held.rows n ≡ Some row) × (rows.new ≡ rows.old ++ row.1 ∷ [])) }
+    ensures { OnOk result ((row : ℕ × Tree) × (slice_get mirror.now.held.rows n ≡ Some row)
+        × (rows.new ≡ rows.old ++ row.1 ∷ [])) }
 {
     match mirror.row(n) {
         Some((_, row)) => rows.push(row.copy()?),

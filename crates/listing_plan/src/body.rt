@@ -27,7 +27,9 @@ const START_LEN: u64 = 65;
 pub(crate) fn payload_len(rows_len: u64, scope: &Scope) -> u64
     requires rows { rows_len ≤ row_limit * rows_limit }
     requires gone { length (gone_of scope.now) ≤ rows_limit }
-    ensures counted { (target : Target) → result ≡ 65 + rows_len + length (spellings (trees_of (gone_tags target (is_delta_of scope.now) (gone_of scope.now)))) }
+    ensures counted { (target : Target)
+        → result ≡ 65 + rows_len + length
+        (spellings (trees_of (gone_tags target (is_delta_of scope.now) (gone_of scope.now)))) }
     ensures short { result ≤ longest }
 {
     START_LEN + rows_len + gone_len(scope)
@@ -36,7 +38,9 @@ pub(crate) fn payload_len(rows_len: u64, scope: &Scope) -> u64
 #[tactic(auto, using(crate::proofs::Bodies::keys_length))]
 fn gone_len(scope: &Scope) -> u64
     requires { length (gone_of scope.now) ≤ rows_limit }
-    ensures counted { (target : Target) → result ≡ length (spellings (trees_of (gone_tags target (is_delta_of scope.now) (gone_of scope.now)))) }
+    ensures counted { (target : Target)
+        → result ≡ length (spellings
+        (trees_of (gone_tags target (is_delta_of scope.now) (gone_of scope.now)))) }
     ensures short { result ≤ 8 + 12 * rows_limit }
 {
     match scope {
@@ -53,7 +57,9 @@ pub(crate) fn put_start<const N: usize>(
     listed: u32,
 )
     requires { length page.old + 57 ≤ N }
-    ensures put { page.new ≡ page.old ++ spellings (trees_of (start_tags (is_delta_of scope.now) revision (total_of scope.now listed) listed)) }
+    ensures put { page.new ≡ page.old ++ spellings
+        (trees_of (start_tags (is_delta_of scope.now) revision
+        (total_of scope.now listed) listed)) }
     ensures longer { length page.new ≡ length page.old + 57 }
 {
     page.put_number(Code(*b"mstt"), 200);
@@ -82,7 +88,10 @@ pub(crate) fn push_gone<W: Sink, const N: usize>(
 ) -> Result<(), Failed>
     requires wide { row_limit ≤ N }
     requires few { length (gone_of scope.now) ≤ rows_limit }
-    ensures pushes { Pushes (spellings (trees_of (gone_tags target (is_delta_of scope.now) (gone_of scope.now)))) result (W.taken sink.old) (W.taken sink.new) page.old page.new (W.faults sink.old) (W.faults sink.new) }
+    ensures pushes { Pushes (spellings
+        (trees_of (gone_tags target (is_delta_of scope.now) (gone_of scope.now)))) result
+        (W.taken sink.old) (W.taken sink.new) page.old page.new (W.faults sink.old)
+        (W.faults sink.new) }
     ensures beside { W.beside_taken sink.new ≡ W.beside_taken sink.old }
 {
     match scope {
@@ -99,7 +108,9 @@ fn push_deleted<W: Sink, const N: usize>(
 ) -> Result<(), Failed>
     requires wide { row_limit ≤ N }
     requires few { length keys.now ≤ rows_limit }
-    ensures pushes { Pushes (spellings (trees_of (gone_tags target true keys.now))) result (W.taken sink.old) (W.taken sink.new) page.old page.new (W.faults sink.old) (W.faults sink.new) }
+    ensures pushes { Pushes (spellings (trees_of (gone_tags target true keys.now))) result
+        (W.taken sink.old) (W.taken sink.new) page.old page.new (W.faults sink.old)
+        (W.faults sink.new) }
     ensures beside { W.beside_taken sink.new ≡ W.beside_taken sink.old }
 {
     let len = NUMBER_LEN * keys.len() as u64;
@@ -114,7 +125,9 @@ fn push_keys<W: Sink, const N: usize>(
     keys: &[u32],
 ) -> Result<(), Failed>
     requires { row_limit ≤ N }
-    ensures pushes { Pushes (spellings (trees_of (map (λ key. leaf of (U32 key)) keys.now))) result (W.taken sink.old) (W.taken sink.new) page.old page.new (W.faults sink.old) (W.faults sink.new) }
+    ensures pushes { Pushes (spellings (trees_of (map (λ key. leaf of (U32 key)) keys.now))) result
+        (W.taken sink.old) (W.taken sink.new) page.old page.new (W.faults sink.old)
+        (W.faults sink.new) }
     ensures beside { W.beside_taken sink.new ≡ W.beside_taken sink.old }
 {
     for key in keys {
@@ -130,7 +143,8 @@ fn push_key<W: Sink, const N: usize>(
     key: u32,
 ) -> Result<(), Failed>
     requires { row_limit ≤ N }
-    ensures pushes { Pushes (spelling (leaf of (U32 key))) result (W.taken sink.old) (W.taken sink.new) page.old page.new (W.faults sink.old) (W.faults sink.new) }
+    ensures pushes { Pushes (spelling (leaf of (U32 key))) result (W.taken sink.old)
+        (W.taken sink.new) page.old page.new (W.faults sink.old) (W.faults sink.new) }
     ensures beside { W.beside_taken sink.new ≡ W.beside_taken sink.old }
 {
     page.make_room(sink, 12)?;

@@ -75,7 +75,10 @@ impl Listed {
         shown: &ShownProperties,
     ) -> Result<(), Failed>
         requires { row_limit ≤ N }
-        ensures pushes { Pushes (spellings (trees_of (row_trees shown.now (listed_rows target self.now)))) result (W.taken sink.old) (W.taken sink.new) page.old page.new (W.faults sink.old) (W.faults sink.new) }
+        ensures pushes { Pushes (spellings
+            (trees_of (row_trees shown.now (listed_rows target self.now)))) result
+            (W.taken sink.old) (W.taken sink.new) page.old page.new (W.faults sink.old)
+            (W.faults sink.new) }
         ensures beside { W.beside_taken sink.new ≡ W.beside_taken sink.old }
     {
         match self {
@@ -87,7 +90,9 @@ impl Listed {
 
 /// Does nothing: it states that a listing has each row of the sheets under its id.
 pub(crate) fn own_ids(rows: &RowSheets)
-    ensures { (target : Target) (meta : Meta) → rows_held (asked meta) (map (plan_row target) rows.now) ≡ shown_rows target meta rows.now }
+    ensures { (target : Target) (meta : Meta)
+        → rows_held (asked meta) (map (plan_row target) rows.now)
+        ≡ shown_rows target meta rows.now }
 {
     let _sheets = rows.sheets();
 }

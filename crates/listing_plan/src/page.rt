@@ -121,7 +121,8 @@ impl<const N: usize> Page<N> {
 
     // Writes the page to the sink and empties it.
     pub(crate) fn flush<W: Sink>(&mut self, sink: &mut W) -> Result<(), Failed>
-        ensures pushes { Pushes [] result (W.taken sink.old) (W.taken sink.new) self.old self.new (W.faults sink.old) (W.faults sink.new) }
+        ensures pushes { Pushes [] result (W.taken sink.old) (W.taken sink.new) self.old self.new
+            (W.faults sink.old) (W.faults sink.new) }
         ensures empty { OnOk result (self.new ≡ []) }
         ensures beside { W.beside_taken sink.new ≡ W.beside_taken sink.old }
     {
@@ -133,7 +134,8 @@ impl<const N: usize> Page<N> {
     // Writes the page to the sink if `len` more bytes do not fit on it.
     pub(crate) fn make_room<W: Sink>(&mut self, sink: &mut W, len: usize) -> Result<(), Failed>
         requires { len ≤ N }
-        ensures pushes { Pushes [] result (W.taken sink.old) (W.taken sink.new) self.old self.new (W.faults sink.old) (W.faults sink.new) }
+        ensures pushes { Pushes [] result (W.taken sink.old) (W.taken sink.new) self.old self.new
+            (W.faults sink.old) (W.faults sink.new) }
         ensures room { OnOk result (length self.new + len ≤ N) }
         ensures beside { W.beside_taken sink.new ≡ W.beside_taken sink.old }
     {

@@ -109,7 +109,11 @@ impl Plan {
     #[tactic(auto, using(crate::proofs::Writing::none_gone, crate::proofs::Bodies::same_rows))]
     pub fn full(target: Target, revision: u32, total: u32, rows: Vec<PlanRow>, meta: Meta) -> Plan
         requires rows { AreRowsOf target rows.items }
-        ensures { result ≡ Rows (record { target = target; listing = full_plan target revision total rows.items meta }) }
+        ensures { result ≡ Rows (record {
+          target = target;
+          listing = full_plan target revision total
+              rows.items meta;
+        }) }
     {
         let shown = ShownProperties::of(&meta);
         Plan::Rows(RowPlan {
@@ -126,7 +130,11 @@ impl Plan {
     #[tactic(auto, using(crate::proofs::Writing::none_gone))]
     pub fn sheets(target: Target, revision: u32, rows: RowSheets, meta: Meta) -> Plan
         requires { length rows ≤ rows_limit }
-        ensures { result ≡ Rows (record { target = target; listing = full_keyed target revision (length rows) rows meta }) }
+        ensures { result ≡ Rows (record {
+          target = target;
+          listing = full_keyed target revision
+              (length rows) rows meta;
+        }) }
     {
         own_ids(&rows);
         Plan::Rows(RowPlan {
@@ -149,7 +157,11 @@ impl Plan {
     ) -> Plan
         requires rows { AreRowsOf target rows.items }
         requires gone { AreGone gone.items }
-        ensures { result ≡ Rows (record { target = target; listing = delta_plan target revision rows.items gone.items meta }) }
+        ensures { result ≡ Rows (record {
+          target = target;
+          listing = delta_plan target revision
+              rows.items gone.items meta;
+        }) }
     {
         let shown = ShownProperties::of(&meta);
         Plan::Rows(RowPlan {
@@ -182,8 +194,10 @@ impl Plan {
     #[tactic(auto, using(crate::proofs::Writing::nothing_appended))]
     pub fn write<W: Sink>(&self, sink: &mut W) -> Result<(), Failed>
         requires { IsWritable self.now }
-        ensures written { OnOk result (Appends (W.taken sink.old) (W.taken sink.new) (plan_bytes self.now)) }
-        ensures part { OnErr result (AppendsPrefix (W.taken sink.old) (W.taken sink.new) (plan_bytes self.now)) }
+        ensures written { OnOk result
+            (Appends (W.taken sink.old) (W.taken sink.new) (plan_bytes self.now)) }
+        ensures part { OnErr result (AppendsPrefix (W.taken sink.old) (W.taken sink.new)
+            (plan_bytes self.now)) }
         ensures count { OnOk result (W.faults sink.new ≡ W.faults sink.old) }
         ensures failed { OnErr result (Rose (W.faults sink.old) (W.faults sink.new)) }
         ensures beside { W.beside_taken sink.new ≡ W.beside_taken sink.old }
@@ -213,8 +227,11 @@ impl RowPlan {
     }
 
     fn write<W: Sink>(&self, sink: &mut W) -> Result<(), Failed>
-        ensures written { OnOk result (Appends (W.taken sink.old) (W.taken sink.new) (spelling (body_tree self.now.target self.now.listing))) }
-        ensures part { OnErr result (AppendsPrefix (W.taken sink.old) (W.taken sink.new) (spelling (body_tree self.now.target self.now.listing))) }
+        ensures written { OnOk result
+            (Appends (W.taken sink.old) (W.taken sink.new)
+            (spelling (body_tree self.now.target self.now.listing))) }
+        ensures part { OnErr result (AppendsPrefix (W.taken sink.old) (W.taken sink.new)
+            (spelling (body_tree self.now.target self.now.listing))) }
         ensures count { OnOk result (W.faults sink.new ≡ W.faults sink.old) }
         ensures failed { OnErr result (Rose (W.faults sink.old) (W.faults sink.new)) }
         ensures beside { W.beside_taken sink.new ≡ W.beside_taken sink.old }
@@ -239,8 +256,11 @@ impl RowPlan {
         requires empty { page.old ≡ [] }
         requires counted { rows_len ≡ listed_length self.now }
         requires short { rows_len ≤ row_limit * rows_limit }
-        ensures written { OnOk result (Appends (W.taken sink.old) (W.taken sink.new) (spelling (body_tree self.now.target self.now.listing))) }
-        ensures part { OnErr result (AppendsPrefix (W.taken sink.old) (W.taken sink.new) (spelling (body_tree self.now.target self.now.listing))) }
+        ensures written { OnOk result
+            (Appends (W.taken sink.old) (W.taken sink.new)
+            (spelling (body_tree self.now.target self.now.listing))) }
+        ensures part { OnErr result (AppendsPrefix (W.taken sink.old) (W.taken sink.new)
+            (spelling (body_tree self.now.target self.now.listing))) }
         ensures count { OnOk result (W.faults sink.new ≡ W.faults sink.old) }
         ensures failed { OnErr result (Rose (W.faults sink.old) (W.faults sink.new)) }
         ensures beside { W.beside_taken sink.new ≡ W.beside_taken sink.old }
@@ -256,7 +276,8 @@ impl RowPlan {
         requires counted { rows_len ≡ listed_length self.now }
         requires short { rows_len ≤ row_limit * rows_limit }
         requires empty { page.old ≡ [] }
-        ensures { page.new ++ rest_of self.now ≡ spelling (body_tree self.now.target self.now.listing) }
+        ensures { page.new ++ rest_of self.now
+            ≡ spelling (body_tree self.now.target self.now.listing) }
     {
         let len = payload_len(rows_len, &self.scope);
         page.put_head(body_code(self.target), len as u32);
@@ -271,7 +292,8 @@ impl RowPlan {
         sink: &mut W,
     ) -> Result<(), Failed>
         requires { row_limit ≤ N }
-        ensures pushes { Pushes (rest_of self.now) result (W.taken sink.old) (W.taken sink.new) page.old page.new (W.faults sink.old) (W.faults sink.new) }
+        ensures pushes { Pushes (rest_of self.now) result (W.taken sink.old)
+            (W.taken sink.new) page.old page.new (W.faults sink.old) (W.faults sink.new) }
         ensures beside { W.beside_taken sink.new ≡ W.beside_taken sink.old }
     {
         self.rows.push(page, sink, self.target, &self.shown)?;
@@ -281,8 +303,10 @@ impl RowPlan {
 
 fn write_tag<W: Sink>(sink: &mut W, tag: &Tag) -> Result<(), Failed>
     requires { is_spellable tag.now ≡ true }
-    ensures written { OnOk result (Appends (W.taken sink.old) (W.taken sink.new) (spelling tag.now)) }
-    ensures part { OnErr result (AppendsPrefix (W.taken sink.old) (W.taken sink.new) (spelling tag.now)) }
+    ensures written { OnOk result
+        (Appends (W.taken sink.old) (W.taken sink.new) (spelling tag.now)) }
+    ensures part { OnErr result (AppendsPrefix (W.taken sink.old) (W.taken sink.new)
+        (spelling tag.now)) }
     ensures count { OnOk result (W.faults sink.new ≡ W.faults sink.old) }
     ensures failed { OnErr result (Rose (W.faults sink.old) (W.faults sink.new)) }
     ensures beside { W.beside_taken sink.new ≡ W.beside_taken sink.old }
@@ -307,8 +331,10 @@ fn write_tag_by<W: Sink, const N: usize>(
     requires empty { page.old ≡ [] }
     requires spellable { is_spellable tag.now ≡ true }
     requires counted { len ≡ length (payload tag.now) }
-    ensures written { OnOk result (Appends (W.taken sink.old) (W.taken sink.new) (spelling tag.now)) }
-    ensures part { OnErr result (AppendsPrefix (W.taken sink.old) (W.taken sink.new) (spelling tag.now)) }
+    ensures written { OnOk result
+        (Appends (W.taken sink.old) (W.taken sink.new) (spelling tag.now)) }
+    ensures part { OnErr result (AppendsPrefix (W.taken sink.old) (W.taken sink.new)
+        (spelling tag.now)) }
     ensures count { OnOk result (W.faults sink.new ≡ W.faults sink.old) }
     ensures failed { OnErr result (Rose (W.faults sink.old) (W.faults sink.new)) }
     ensures beside { W.beside_taken sink.new ≡ W.beside_taken sink.old }

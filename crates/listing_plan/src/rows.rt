@@ -25,7 +25,9 @@ pub(crate) fn push_rows<W: Sink, const N: usize>(
 ) -> Result<(), Failed>
     requires wide { row_limit ≤ N }
     requires once { first_mentions properties.now ≡ properties.now }
-    ensures pushes { Pushes (spellings (trees_of (row_trees properties.now rows.now))) result (W.taken sink.old) (W.taken sink.new) page.old page.new (W.faults sink.old) (W.faults sink.new) }
+    ensures pushes { Pushes (spellings (trees_of (row_trees properties.now rows.now))) result
+        (W.taken sink.old) (W.taken sink.new) page.old page.new (W.faults sink.old)
+        (W.faults sink.new) }
     ensures beside { W.beside_taken sink.new ≡ W.beside_taken sink.old }
 {
     for row in rows {
@@ -42,7 +44,8 @@ fn push_row<W: Sink, const N: usize>(
 ) -> Result<(), Failed>
     requires wide { row_limit ≤ N }
     requires once { first_mentions properties.now ≡ properties.now }
-    ensures pushes { Pushes (spelling (row_tree properties.now row.now)) result (W.taken sink.old) (W.taken sink.new) page.old page.new (W.faults sink.old) (W.faults sink.new) }
+    ensures pushes { Pushes (spelling (row_tree properties.now row.now)) result (W.taken sink.old)
+        (W.taken sink.new) page.old page.new (W.faults sink.old) (W.faults sink.new) }
     ensures beside { W.beside_taken sink.new ≡ W.beside_taken sink.old }
 {
     let len = row_len(row, properties);
@@ -88,7 +91,8 @@ fn put_shown<const N: usize>(page: &mut Page<N>, item: &Item, properties: &[Prop
 }
 
 fn put_property<const N: usize>(page: &mut Page<N>, item: &Item, property: Property)
-    requires { length page.old + length (spellings (trees_of (shown item.now (property ∷ [])))) ≤ N }
+    requires { length page.old + length (spellings (trees_of (shown item.now (property ∷ []))))
+        ≤ N }
     ensures { page.new ≡ page.old ++ spellings (trees_of (shown item.now (property ∷ []))) }
 {
     match item.get(property) {

@@ -50,7 +50,8 @@ impl<'a> SheetRow<'a> {
     ) -> Result<(), Failed>
         requires wide { row_limit ≤ N }
         requires row { IsSheetRow self.now }
-        ensures pushes { Pushes (sheet_row_tag target self.now) result (W.taken sink.old) (W.taken sink.new) page.old page.new (W.faults sink.old) (W.faults sink.new) }
+        ensures pushes { Pushes (sheet_row_tag target self.now) result (W.taken sink.old)
+            (W.taken sink.new) page.old page.new (W.faults sink.old) (W.faults sink.new) }
         ensures beside { W.beside_taken sink.new ≡ W.beside_taken sink.old }
     {
         let len = self.tag_len(target);
@@ -100,8 +101,10 @@ impl<'a> SheetRow<'a> {
         requires row { IsSheetRow self.now }
         requires within { IsWithin self.now.sheet.now.properties run }
         ensures within { result.len ≤ length result.bytes.now }
-        ensures tags { take result.len result.bytes.now ≡ run_bytes self.now.sheet.now.properties self.now.shared.now run }
-        ensures len { result.len ≡ length (run_bytes self.now.sheet.now.properties self.now.shared.now run) }
+        ensures tags { take result.len result.bytes.now
+            ≡ run_bytes self.now.sheet.now.properties self.now.shared.now run }
+        ensures len { result.len ≡ length
+            (run_bytes self.now.sheet.now.properties self.now.shared.now run) }
     {
         self.sheet.row_tags(self.index, run.from, run.to)
     }

@@ -78,7 +78,9 @@ pub(crate) fn push_sheets<W: Sink, const N: usize>(
 ) -> Result<(), Failed>
     requires wide { row_limit ≤ N }
     requires once { first_mentions asked.now ≡ asked.now }
-    ensures pushes { Pushes (spellings (trees_of (row_trees asked.now (map (plan_row target) rows.now)))) result (W.taken sink.old) (W.taken sink.new) page.old page.new (W.faults sink.old) (W.faults sink.new) }
+    ensures pushes { Pushes (spellings
+        (trees_of (row_trees asked.now (map (plan_row target) rows.now)))) result (W.taken sink.old)
+        (W.taken sink.new) page.old page.new (W.faults sink.old) (W.faults sink.new) }
     ensures beside { W.beside_taken sink.new ≡ W.beside_taken sink.old }
 {
     for sheet in rows.sheets() {
@@ -96,7 +98,8 @@ fn push_sheet<W: Sink, const N: usize>(
 ) -> Result<(), Failed>
     requires wide { row_limit ≤ N }
     requires once { first_mentions asked.now ≡ asked.now }
-    ensures pushes { Pushes (sheet_bytes target asked.now sheet.now.rows) result (W.taken sink.old) (W.taken sink.new) page.old page.new (W.faults sink.old) (W.faults sink.new) }
+    ensures pushes { Pushes (sheet_bytes target asked.now sheet.now.rows) result (W.taken sink.old)
+        (W.taken sink.new) page.old page.new (W.faults sink.old) (W.faults sink.new) }
     ensures beside { W.beside_taken sink.new ≡ W.beside_taken sink.old }
 {
     let rows = sheet.rows();
@@ -115,7 +118,10 @@ fn row_at<'a>(sheet: &'a Sheet, index: usize, runs: &'a [Run], asked: &[Property
     requires runs { AreRuns sheet.now.properties asked.now runs.now }
     requires others { All (HasNoOther sheet.now.properties) sheet.now.rows }
     ensures row { IsSheetRow result }
-    ensures next { (target : Target) → sheet_bytes target asked.now (drop index sheet.now.rows) ≡ sheet_row_tag target result ++ sheet_bytes target asked.now (drop (index + 1) sheet.now.rows) }
+    ensures next { (target : Target)
+        → sheet_bytes target asked.now (drop index sheet.now.rows)
+        ≡ sheet_row_tag target result ++ sheet_bytes target asked.now
+        (drop (index + 1) sheet.now.rows) }
 {
     let rows = sheet.rows();
     let ids = sheet.ids();

@@ -54,7 +54,8 @@ pub(crate) fn push_measured<W: Sink, const N: usize>(
     requires wide { row_limit ≤ N }
     requires spellable { is_spellable tag.now ≡ true }
     requires counted { len ≡ length (payload tag.now) }
-    ensures pushes { Pushes (spelling tag.now) result (W.taken sink.old) (W.taken sink.new) page.old page.new (W.faults sink.old) (W.faults sink.new) }
+    ensures pushes { Pushes (spelling tag.now) result (W.taken sink.old)
+        (W.taken sink.new) page.old page.new (W.faults sink.old) (W.faults sink.new) }
     ensures beside { W.beside_taken sink.new ≡ W.beside_taken sink.old }
 {
     push_head(page, sink, tag.code, len)?;
@@ -69,7 +70,8 @@ fn push_payload<W: Sink, const N: usize>(
 ) -> Result<(), Failed>
     requires wide { row_limit ≤ N }
     requires spellable { is_spellable tag.now ≡ true }
-    ensures pushes { Pushes (payload tag.now) result (W.taken sink.old) (W.taken sink.new) page.old page.new (W.faults sink.old) (W.faults sink.new) }
+    ensures pushes { Pushes (payload tag.now) result (W.taken sink.old)
+        (W.taken sink.new) page.old page.new (W.faults sink.old) (W.faults sink.new) }
     ensures beside { W.beside_taken sink.new ≡ W.beside_taken sink.old }
 {
     let mut room = [0; NUMBER_BYTES];
@@ -82,7 +84,8 @@ fn push_payload<W: Sink, const N: usize>(
 /// Returns what the payload of a tag is made of. It puts the bytes of a number into `room`.
 fn payload_of<'a>(tag: &'a Tag, room: &'a mut [u8; NUMBER_BYTES]) -> Payload<'a>
     ensures bytes { (bytes : _) → result ≡ Bytes bytes → bytes.now ≡ payload tag.now }
-    ensures members { (tags : _) → result ≡ Members tags → tag.now ≡ list (tree_code tag.now) (trees_of tags.now) }
+    ensures members { (tags : _) → result ≡ Members tags
+        → tag.now ≡ list (tree_code tag.now) (trees_of tags.now) }
 {
     match &tag.value {
         Value::U8(n) => Payload::Bytes(copied_to(room, &n.to_be_bytes())),
@@ -121,7 +124,8 @@ fn push_tags<W: Sink, const N: usize>(
 ) -> Result<(), Failed>
     requires wide { row_limit ≤ N }
     requires spellable { are_spellable (trees_of tags.now) ≡ true }
-    ensures pushes { Pushes (spellings (trees_of tags.now)) result (W.taken sink.old) (W.taken sink.new) page.old page.new (W.faults sink.old) (W.faults sink.new) }
+    ensures pushes { Pushes (spellings (trees_of tags.now)) result (W.taken sink.old)
+        (W.taken sink.new) page.old page.new (W.faults sink.old) (W.faults sink.new) }
     ensures beside { W.beside_taken sink.new ≡ W.beside_taken sink.old }
 {
     for tag in tags {
@@ -138,7 +142,8 @@ pub(crate) fn push_head<W: Sink, const N: usize>(
     len: u32,
 ) -> Result<(), Failed>
     requires { row_limit ≤ N }
-    ensures pushes { Pushes (code_bytes of ++ to_be_bytes w32 len) result (W.taken sink.old) (W.taken sink.new) page.old page.new (W.faults sink.old) (W.faults sink.new) }
+    ensures pushes { Pushes (code_bytes of ++ to_be_bytes w32 len) result (W.taken sink.old)
+        (W.taken sink.new) page.old page.new (W.faults sink.old) (W.faults sink.new) }
     ensures beside { W.beside_taken sink.new ≡ W.beside_taken sink.old }
 {
     page.make_room(sink, 8)?;
@@ -152,7 +157,8 @@ fn push_bytes<W: Sink, const N: usize>(
     sink: &mut W,
     bytes: &[u8],
 ) -> Result<(), Failed>
-    ensures pushes { Pushes bytes.now result (W.taken sink.old) (W.taken sink.new) page.old page.new (W.faults sink.old) (W.faults sink.new) }
+    ensures pushes { Pushes bytes.now result (W.taken sink.old) (W.taken sink.new) page.old page.new
+        (W.faults sink.old) (W.faults sink.new) }
     ensures beside { W.beside_taken sink.new ≡ W.beside_taken sink.old }
 {
     if N < bytes.len() {
@@ -169,7 +175,8 @@ fn push_past<W: Sink, const N: usize>(
     sink: &mut W,
     bytes: &[u8],
 ) -> Result<(), Failed>
-    ensures pushes { Pushes bytes.now result (W.taken sink.old) (W.taken sink.new) page.old page.new (W.faults sink.old) (W.faults sink.new) }
+    ensures pushes { Pushes bytes.now result (W.taken sink.old) (W.taken sink.new) page.old page.new
+        (W.faults sink.old) (W.faults sink.new) }
     ensures beside { W.beside_taken sink.new ≡ W.beside_taken sink.old }
 {
     page.flush(sink)?;

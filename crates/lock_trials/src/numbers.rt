@@ -29,7 +29,8 @@ impl Numbers {
 
     /// Appends a number.
     pub fn add(&mut self, by: u32, value: u64) -> Result<(), AllocError>
-        ensures ok { OnOk result (self.new.items.items ≡ self.old.items.items ++ record { by = by; value = value } ∷ []) }
+        ensures ok { OnOk result (self.new.items.items
+            ≡ self.old.items.items ++ record { by = by; value = value } ∷ []) }
         ensures err { OnErr result (self.new.items.items ≡ self.old.items.items) }
     {
         self.items.push(Number { by, value })?;

@@ -20,7 +20,9 @@ pub fn work_all<R: Threads + Wait + Sync>(
 )
     requires threads { 0 < threads }
     requires ready { All (λ w. IsReady (lock_id lock.now) w.pass) workers.old }
-    ensures { (k : ℕ) (d : Worker) → k < length workers.old → HasWorked (lock_id lock.now) (slice_index_or workers.old k d) (slice_index_or workers.new k d) }
+    ensures { (k : ℕ) (d : Worker) → k < length workers.old
+        → HasWorked (lock_id lock.now) (slice_index_or workers.old k d)
+        (slice_index_or workers.new k d) }
 {
     thread::for_each_mut(
         rt,

@@ -18,9 +18,12 @@ pub fn add<R: Wait>(
     requires ready { IsReady (lock_id lock.now) pass.old }
     ensures ready { IsReady (lock_id lock.now) pass.new }
     ensures same { IsSame (known pass.old) (known pass.new) }
-    ensures added { OnOk result (added_in (known pass.new) ≡ added_in (known pass.old) ++ record { by = (known pass.old).number; value = value } ∷ []) }
+    ensures added { OnOk result (added_in (known pass.new)
+        ≡ added_in (known pass.old) ++ record { by = (known pass.old).number; value = value }
+        ∷ []) }
     ensures none { OnErr result (added_in (known pass.new) ≡ added_in (known pass.old)) }
-    ensures looked { (known pass.new).looks ≡ (known pass.old).looks ++ length (known pass.new).seen ∷ [] }
+    ensures looked { (known pass.new).looks
+        ≡ (known pass.old).looks ++ length (known pass.new).seen ∷ [] }
 {
     let by = pass.number();
     let mut turn = lock.take(rt, pass);
@@ -43,7 +46,9 @@ pub fn work<R: Wait>(rt: &R, lock: &ShareLock<Numbers>, worker: &mut Worker)
     requires ready { IsReady (lock_id lock.now) worker.old.pass }
     ensures ready { IsReady (lock_id lock.now) worker.new.pass }
     ensures same { IsSame (known worker.old.pass) (known worker.new.pass) }
-    ensures added { added_in (known worker.new.pass) ≡ added_in (known worker.old.pass) ++ first_numbers (known worker.old.pass).number worker.new.added }
+    ensures added { added_in (known worker.new.pass)
+        ≡ added_in (known worker.old.pass) ++ first_numbers
+        (known worker.old.pass).number worker.new.added }
 {
     worker.added = 0;
     for value in 0..worker.turns {

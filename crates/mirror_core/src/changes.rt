@@ -19,7 +19,8 @@ pub(crate) fn changes(
     gone: &[Tag],
     rows: &[Tag],
 ) -> Result<Changes, AllocError>
-    ensures { IfOk result (λ changes. changes.entries ≡ changes_of (map (key_of target) gone.now) (map (row_of target) rows.now)) }
+    ensures { IfOk result (λ changes. changes.entries
+        ≡ changes_of (map (key_of target) gone.now) (map (row_of target) rows.now)) }
 {
     let mut changes = BTreeMap::new(alloc);
     put_gone(&mut changes, target, gone)?;
@@ -29,7 +30,8 @@ pub(crate) fn changes(
 
 #[tactic(auto, using(crate::proofs::TagFacts::folded_left))]
 fn put_gone(changes: &mut Changes, target: Target, tags: &[Tag]) -> Result<(), AllocError>
-    ensures { OnOk result (changes.new.entries ≡ fold with_gone changes.old.entries (map (key_of target) tags.now)) }
+    ensures { OnOk result (changes.new.entries
+        ≡ fold with_gone changes.old.entries (map (key_of target) tags.now)) }
 {
     for tag in tags {
         changes.insert(key_of(target, tag), None)?;
@@ -39,7 +41,8 @@ fn put_gone(changes: &mut Changes, target: Target, tags: &[Tag]) -> Result<(), A
 
 #[tactic(auto, using(crate::proofs::TagFacts::folded_left))]
 fn put_rows(changes: &mut Changes, target: Target, tags: &[Tag]) -> Result<(), AllocError>
-    ensures { OnOk result (changes.new.entries ≡ fold with_row changes.old.entries (map (row_of target) tags.now)) }
+    ensures { OnOk result (changes.new.entries
+        ≡ fold with_row changes.old.entries (map (row_of target) tags.now)) }
 {
     for tag in tags {
         let copy = tag.copy()?;

@@ -22,7 +22,11 @@ pub(crate) fn take_in(
     held: &mut Vec<(u32, Tag)>,
     told: ToldRef<'_>,
 ) -> Result<(), AllocError>
-    ensures rows { OnOk result (IsAscending held.old.items → held.new.items ≡ fold put_in (if told.entry.is_delta then fold taken_out held.old.items (map (key_of target) told.entry.gone.now) else []) (map (row_of target) told.entry.rows.now)) }
+    ensures rows { OnOk result (IsAscending held.old.items
+        → held.new.items ≡ fold put_in
+        (if told.entry.is_delta then fold taken_out held.old.items
+        (map (key_of target) told.entry.gone.now) else [])
+        (map (row_of target) told.entry.rows.now)) }
     ensures unchanged { OnErr result (held.new.items ≡ held.old.items) }
 {
     let changes = match changes(alloc, target, told.gone, told.rows) {
@@ -84,8 +88,11 @@ fn push_rest(mut out: Vec<(u32, Tag)>, mut changes: Changes) -> Vec<(u32, Tag)>
 // Pushes the changes up to the key of `row`, and `row` itself unless a change has its key.
 fn push_row(out: &mut Vec<(u32, Tag)>, changes: &mut Changes, row: (u32, Tag))
     requires { vec_len out.old + (length changes.old.entries + 1) ≤ vec_capacity out.old }
-    ensures rows { (rest : List Change → List (ℕ × Tree)) → out.new.items ++ rest changes.new.entries ≡ out.old.items ++ past_row row rest changes.old.entries }
-    ensures room { vec_len out.new + length changes.new.entries ≤ vec_len out.old + (length changes.old.entries + 1) }
+    ensures rows { (rest : List Change → List (ℕ × Tree))
+        → out.new.items ++ rest changes.new.entries
+        ≡ out.old.items ++ past_row row rest changes.old.entries }
+    ensures room { vec_len out.new + length changes.new.entries
+        ≤ vec_len out.old + (length changes.old.entries + 1) }
     ensures capacity { vec_capacity out.new ≡ vec_capacity out.old }
 {
     if push_up_to(out, changes, row.0) {
@@ -97,8 +104,12 @@ fn push_row(out: &mut Vec<(u32, Tag)>, changes: &mut Changes, row: (u32, Tag))
 // Pushes the changes up to a key. Returns whether one of them has the key.
 fn push_up_to(out: &mut Vec<(u32, Tag)>, changes: &mut Changes, key: u32) -> bool
     requires { vec_len out.old + length changes.old.entries ≤ vec_capacity out.old }
-    ensures rows { (tag : Tree) (rest : List Change → List (ℕ × Tree)) → out.new.items ++ (if result then rest changes.new.entries else (key, tag) ∷ rest changes.new.entries) ≡ out.old.items ++ past_row (key, tag) rest changes.old.entries }
-    ensures room { vec_len out.new + length changes.new.entries ≤ vec_len out.old + length changes.old.entries }
+    ensures rows { (tag : Tree) (rest : List Change → List (ℕ × Tree))
+        → out.new.items ++ (if result then rest changes.new.entries
+        else (key, tag) ∷ rest changes.new.entries)
+        ≡ out.old.items ++ past_row (key, tag) rest changes.old.entries }
+    ensures room { vec_len out.new + length changes.new.entries
+        ≤ vec_len out.old + length changes.old.entries }
     ensures capacity { vec_capacity out.new ≡ vec_capacity out.old }
 {
     while order_of_next(changes, key) == Ordering::Less {
@@ -124,9 +135,13 @@ fn order_of_next(changes: &Changes, key: u32) -> Ordering
 // Pushes the row of the next change, if it has one.
 fn push_next(out: &mut Vec<(u32, Tag)>, changes: &mut Changes)
     requires { vec_len out.old + length changes.old.entries ≤ vec_capacity out.old }
-    ensures rows { (rest : List Change → List (ℕ × Tree)) → out.new.items ++ rest changes.new.entries ≡ out.old.items ++ with_next rest changes.old.entries }
-    ensures room { vec_len out.new + length changes.new.entries ≤ vec_len out.old + length changes.old.entries }
-    ensures fewer { 0 < length changes.old.entries → length changes.new.entries < length changes.old.entries }
+    ensures rows { (rest : List Change → List (ℕ × Tree))
+        → out.new.items ++ rest changes.new.entries
+        ≡ out.old.items ++ with_next rest changes.old.entries }
+    ensures room { vec_len out.new + length changes.new.entries
+        ≤ vec_len out.old + length changes.old.entries }
+    ensures fewer { 0 < length changes.old.entries
+        → length changes.new.entries < length changes.old.entries }
     ensures capacity { vec_capacity out.new ≡ vec_capacity out.old }
 {
     match changes.pop_first() {

@@ -86,7 +86,13 @@ pub enum MirrorError {
 impl Mirror {
     /// Returns a mirror that holds nothing. Does not allocate.
     pub fn new(alloc: Global, target: Target, query: Option<Query>, meta: Meta) -> Mirror
-        ensures { result ≡ record { target = target; query = query; meta = meta; held = record { revision = 0; rows = [] } } }
+        ensures { result ≡ record {
+          target = target;
+          query = query;
+          meta = meta;
+          held
+              = record { revision = 0; rows = [] };
+        } }
     {
         Mirror {
             alloc,
@@ -114,7 +120,8 @@ impl Mirror {
     /// Returns the look of the next request.
     /// Returns `AllocError` if allocation fails.
     pub fn look(&self) -> Result<Look, AllocError>
-        ensures { IfOk result (λ look. look ≡ mirror_look self.now.query self.now.meta self.now.held.revision) }
+        ensures { IfOk result (λ look. look
+            ≡ mirror_look self.now.query self.now.meta self.now.held.revision) }
     {
         let meta = self.meta.copy()?;
         let query = copy_of(&self.query)?;
@@ -149,12 +156,16 @@ impl Mirror {
     /// Returns `NotListing` if `body` is not a listing of the target, `Backwards` if it is older than the mirror, and
     /// `Memory` if allocation fails.
     pub fn apply(&mut self, body: &Tag) -> Result<Applied, MirrorError>
-        ensures applied { IfOk result (λ applied. (listing : Listing) × IsListing self.old.target self.old.held.revision listing body.now
+        ensures applied { IfOk result (λ applied. (listing : Listing)
+            × IsListing self.old.target self.old.held.revision listing body.now
             × (self.old.held.revision ≤ listing.revision)
             × (self.new ≡ record { target = self.old.target; query = self.old.query; meta = self.old.meta; held = after_body self.old.target self.old.held body.now })
             × (applied ≡ record { revision = listing.revision; delta = listing.is_delta; put = length listing.rows; dropped = length listing.gone; rows = length self.new.held.rows })) }
-        ensures no_listing { (index : Option ℕ) → (result ≡ Err (MirrorError.NotListing index)) → IsNoListing self.old.target self.old.held.revision body.now index }
-        ensures backwards { (held told : ℕ) → (result ≡ Err (MirrorError.Backwards held told)) → (listing : Listing) × IsListing self.old.target self.old.held.revision listing body.now × (held ≡ self.old.held.revision) × (told ≡ listing.revision) × (told < held) }
+        ensures no_listing { (index : Option ℕ) → (result ≡ Err (MirrorError.NotListing index))
+            → IsNoListing self.old.target self.old.held.revision body.now index }
+        ensures backwards { (held told : ℕ) → (result ≡ Err (MirrorError.Backwards held told))
+            → (listing : Listing) × IsListing self.old.target self.old.held.revision listing
+            body.now × (held ≡ self.old.held.revision) × (told ≡ listing.revision) × (told < held) }
         ensures unchanged { OnErr result (self.new ≡ self.old) }
     {
         let told = match told_by(self.target, self.revision, body) {

@@ -22,9 +22,13 @@ use share_history::body_code;
 ///
 /// Returns `NotListing` if the body is not a listing of the target, and `Backwards` if it is older than `base`.
 pub fn told_by(target: Target, base: u32, body: &Tag) -> Result<ToldRef<'_>, MirrorError>
-    ensures told { IfOk result (λ told. IsListing target base (listing_of target (told_of told)) body.now × (base ≤ told.revision)) }
-    ensures no_listing { (index : Option ℕ) → (result ≡ Err (MirrorError.NotListing index)) → IsNoListing target base body.now index }
-    ensures backwards { (held told : ℕ) → (result ≡ Err (MirrorError.Backwards held told)) → (listing : Listing) × IsListing target base listing body.now × (held ≡ base) × (told ≡ listing.revision) × (told < held) }
+    ensures told { IfOk result (λ told. IsListing target base
+        (listing_of target (told_of told)) body.now × (base ≤ told.revision)) }
+    ensures no_listing { (index : Option ℕ) → (result ≡ Err (MirrorError.NotListing index))
+        → IsNoListing target base body.now index }
+    ensures backwards { (held told : ℕ) → (result ≡ Err (MirrorError.Backwards held told))
+        → (listing : Listing) × IsListing target base listing body.now × (held ≡ base)
+        × (told ≡ listing.revision) × (told < held) }
     ensures no_memory { result ≢ Err MirrorError.Memory }
 {
     let told = match read(target, base, body) {
@@ -42,7 +46,8 @@ pub fn told_by(target: Target, base: u32, body: &Tag) -> Result<ToldRef<'_>, Mir
 
 // Reads a body, or returns the index of the first member that cannot continue a listing, `None` for another tag.
 fn read(target: Target, base: u32, body: &Tag) -> Result<ToldRef<'_>, Option<u64>>
-    ensures { MatchResult result (λ told. read_tag target base body.now ≡ Ok (told_of told)) (λ index. read_tag target base body.now ≡ Err index) }
+    ensures { MatchResult result (λ told. read_tag target base body.now ≡ Ok (told_of told))
+        (λ index. read_tag target base body.now ≡ Err index) }
 {
     match members_in(body_code(target), body) {
         Some(members) => read_members(target, base, members),
@@ -55,7 +60,9 @@ fn read_members<'a>(
     base: u32,
     members: &'a [Tag],
 ) -> Result<ToldRef<'a>, Option<u64>>
-    ensures { MatchResult result (λ told. placed (read_from target base Status untold 0 members.now) ≡ Ok (told_of told)) (λ index. placed (read_from target base Status untold 0 members.now) ≡ Err index) }
+    ensures { MatchResult result
+        (λ told. placed (read_from target base Status untold 0 members.now) ≡ Ok (told_of told))
+        (λ index. placed (read_from target base Status untold 0 members.now) ≡ Err index) }
 {
     let mut reached = (Due::Status, ToldRef::new());
     let mut place = 0;

@@ -17,7 +17,8 @@ pub(crate) fn passed<'a>(
     told: ToldRef<'a>,
     member: &'a Tag,
 ) -> Option<(Due, ToldRef<'a>)>
-    ensures { option_map reached_of result ≡ passed target base due (told_of told.entry) member.now }
+    ensures { option_map reached_of result
+        ≡ passed target base due (told_of told.entry) member.now }
 {
     if is_listings(member) {
         step(target, base, due, told, member)
@@ -48,7 +49,9 @@ fn step<'a>(
 }
 
 fn status<'a>(told: ToldRef<'a>, member: &Tag) -> Option<(Due, ToldRef<'a>)>
-    ensures { (target : Target) (base : ℕ) → option_map reached_of result ≡ step target base Due.Status (told_of told.entry) member.now }
+    ensures { (target : Target) (base : ℕ)
+        → option_map reached_of result
+        ≡ step target base Due.Status (told_of told.entry) member.now }
 {
     match number_in(Code(*b"mstt"), member) {
         Some(200) => Some((Due::Kind, told)),
@@ -58,7 +61,8 @@ fn status<'a>(told: ToldRef<'a>, member: &Tag) -> Option<(Due, ToldRef<'a>)>
 
 // A delta needs held rows to change.
 fn kind<'a>(base: u32, told: ToldRef<'a>, member: &Tag) -> Option<(Due, ToldRef<'a>)>
-    ensures { (target : Target) → option_map reached_of result ≡ step target base Due.Kind (told_of told.entry) member.now }
+    ensures { (target : Target) → option_map reached_of result
+        ≡ step target base Due.Kind (told_of told.entry) member.now }
 {
     match mark_in(member) {
         Some(is_delta) => {
@@ -72,7 +76,9 @@ fn kind<'a>(base: u32, told: ToldRef<'a>, member: &Tag) -> Option<(Due, ToldRef<
 }
 
 fn revision<'a>(told: ToldRef<'a>, member: &Tag) -> Option<(Due, ToldRef<'a>)>
-    ensures { (target : Target) (base : ℕ) → option_map reached_of result ≡ step target base Due.Revision (told_of told.entry) member.now }
+    ensures { (target : Target) (base : ℕ)
+        → option_map reached_of result
+        ≡ step target base Due.Revision (told_of told.entry) member.now }
 {
     match number_in(Code(*b"musr"), member) {
         Some(revision) => Some((Due::Total, ToldRef { revision, ..told })),
@@ -81,7 +87,9 @@ fn revision<'a>(told: ToldRef<'a>, member: &Tag) -> Option<(Due, ToldRef<'a>)>
 }
 
 fn total<'a>(told: ToldRef<'a>, member: &Tag) -> Option<(Due, ToldRef<'a>)>
-    ensures { (target : Target) (base : ℕ) → option_map reached_of result ≡ step target base Due.Total (told_of told.entry) member.now }
+    ensures { (target : Target) (base : ℕ)
+        → option_map reached_of result
+        ≡ step target base Due.Total (told_of told.entry) member.now }
 {
     match number_in(Code(*b"mtco"), member) {
         Some(total) => Some((Due::Listed, ToldRef { total, ..told })),
@@ -91,7 +99,9 @@ fn total<'a>(told: ToldRef<'a>, member: &Tag) -> Option<(Due, ToldRef<'a>)>
 
 // The stated number of listed rows is not checked.
 fn listed<'a>(told: ToldRef<'a>, member: &Tag) -> Option<(Due, ToldRef<'a>)>
-    ensures { (target : Target) (base : ℕ) → option_map reached_of result ≡ step target base Due.Listed (told_of told.entry) member.now }
+    ensures { (target : Target) (base : ℕ)
+        → option_map reached_of result
+        ≡ step target base Due.Listed (told_of told.entry) member.now }
 {
     match number_in(Code(*b"mrco"), member) {
         Some(_) => Some((Due::Rows, told)),
@@ -100,7 +110,8 @@ fn listed<'a>(told: ToldRef<'a>, member: &Tag) -> Option<(Due, ToldRef<'a>)>
 }
 
 fn rows<'a>(target: Target, told: ToldRef<'a>, member: &'a Tag) -> Option<(Due, ToldRef<'a>)>
-    ensures { (base : ℕ) → option_map reached_of result ≡ step target base Due.Rows (told_of told.entry) member.now }
+    ensures { (base : ℕ) → option_map reached_of result
+        ≡ step target base Due.Rows (told_of told.entry) member.now }
 {
     match members_in(Code(*b"mlcl"), member) {
         Some(rows) => {
@@ -121,7 +132,8 @@ fn after_rows(is_delta: bool) -> Due
 }
 
 fn gone<'a>(target: Target, told: ToldRef<'a>, member: &'a Tag) -> Option<(Due, ToldRef<'a>)>
-    ensures { (base : ℕ) → option_map reached_of result ≡ step target base Due.Gone (told_of told.entry) member.now }
+    ensures { (base : ℕ) → option_map reached_of result
+        ≡ step target base Due.Gone (told_of told.entry) member.now }
 {
     match members_in(Code(*b"mudl"), member) {
         Some(gone) => {

@@ -38,7 +38,8 @@ pub trait Disk: Faulted {
         ensures images_stay { NoMore (images self.old) (images self.new) }
         ensures told_stays { is_some (bytes self.new) ≡ is_some (bytes self.old) }
         ensures name_stays { opened_as self.new ≡ opened_as self.old }
-        ensures time { Elapses (clock self.old) (clock self.new) (since self.old) (since self.new) (images self.new) }
+        ensures time { Elapses (clock self.old) (clock self.new) (since self.old) (since self.new)
+            (images self.new) }
         ensures count { CountsFaults (Self.faults self.old) (Self.faults self.new) result };
 
     /// Reads bytes at offset `at` into the start of `room`, and returns how many: 0 exactly if `at` is at or past the
@@ -50,12 +51,14 @@ pub trait Disk: Faulted {
     fn read_at(&mut self, at: u64, room: &mut [u8]) -> Result<usize, Failed>
         requires some { 0 < length room.old }
         ensures within { ReadsAtMost result room.new }
-        ensures reads { IfOk result (λ n. IfSome (bytes self.old) (λ b. ReadsFrom b at n room.new)) }
+        ensures reads { IfOk result (λ n. IfSome (bytes self.old)
+            (λ b. ReadsFrom b at n room.new)) }
         ensures bytes_stay { OnOk result (bytes self.new ≡ bytes self.old) }
         ensures images_stay { NoMore (images self.old) (images self.new) }
         ensures told_stays { is_some (bytes self.new) ≡ is_some (bytes self.old) }
         ensures name_stays { opened_as self.new ≡ opened_as self.old }
-        ensures time { Elapses (clock self.old) (clock self.new) (since self.old) (since self.new) (images self.new) }
+        ensures time { Elapses (clock self.old) (clock self.new) (since self.old) (since self.new)
+            (images self.new) }
         ensures count { CountsFaults (Self.faults self.old) (Self.faults self.new) result };
 
     /// Writes the whole of `piece` at offset `at`, over the old bytes there and past the end.
@@ -67,14 +70,16 @@ pub trait Disk: Faulted {
     fn write_at(&mut self, at: u64, piece: &[u8]) -> Result<(), Failed>
         requires some { 0 < length piece.now }
         requires inside { IfSome (bytes self.old) (λ b. at ≤ length b) }
-        ensures written { OnOk result (bytes self.new ≡ option_map (λ b. overlaid b at piece.now) (bytes self.old)) }
+        ensures written { OnOk result
+            (bytes self.new ≡ option_map (λ b. overlaid b at piece.now) (bytes self.old)) }
         ensures torn { Follows (Torn at (length piece.now)) (images self.old) (images self.new) }
         ensures far { 2 ^ 63 ≤ at + length piece.now → IsErr result }
         ensures undone { 2 ^ 63 ≤ at + length piece.now
             → (bytes self.new ≡ bytes self.old) × NoMore (images self.old) (images self.new) }
         ensures told_stays { is_some (bytes self.new) ≡ is_some (bytes self.old) }
         ensures name_stays { opened_as self.new ≡ opened_as self.old }
-        ensures time { Elapses (clock self.old) (clock self.new) (since self.old) (since self.new) (images self.new) }
+        ensures time { Elapses (clock self.old) (clock self.new) (since self.old) (since self.new)
+            (images self.new) }
         ensures count { CountsFaults (Self.faults self.old) (Self.faults self.new) result };
 
     /// Truncates the bytes to the first `len`.
@@ -88,7 +93,8 @@ pub trait Disk: Faulted {
         ensures torn { Follows (CutShort len) (images self.old) (images self.new) }
         ensures told_stays { is_some (bytes self.new) ≡ is_some (bytes self.old) }
         ensures name_stays { opened_as self.new ≡ opened_as self.old }
-        ensures time { Elapses (clock self.old) (clock self.new) (since self.old) (since self.new) (images self.new) }
+        ensures time { Elapses (clock self.old) (clock self.new) (since self.old) (since self.new)
+            (images self.new) }
         ensures count { CountsFaults (Self.faults self.old) (Self.faults self.new) result };
 
     /// Returns once all changes are safe from a crash.
@@ -102,7 +108,8 @@ pub trait Disk: Faulted {
         ensures images_stay { NoMore (images self.old) (images self.new) }
         ensures told_stays { is_some (bytes self.new) ≡ is_some (bytes self.old) }
         ensures name_stays { opened_as self.new ≡ opened_as self.old }
-        ensures time { Elapses (clock self.old) (clock self.new) (since self.old) (since self.new) (images self.new) }
+        ensures time { Elapses (clock self.old) (clock self.new) (since self.old) (since self.new)
+            (images self.new) }
         ensures count { CountsFaults (Self.faults self.old) (Self.faults self.new) result };
 
     // The bytes are an image, also after `Failed`.

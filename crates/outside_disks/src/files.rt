@@ -33,5 +33,6 @@ pub trait Files: Faulted {
         ensures asked_stays { asked self.new ≡ asked self.old }
         ensures closed { ClosesFile (contents self.old) (contents self.new)
             (Self.D.opened_as disk) (Self.D.bytes disk) }
-        ensures count { RisesWith (Self.faults self.old) (Self.faults self.new) (Self.D.faults disk) };
+        ensures count { RisesWith (Self.faults self.old) (Self.faults self.new)
+            (Self.D.faults disk) };
 }

@@ -24,7 +24,8 @@ pub trait Listener: Faulted {
 
     /// Waits for the next connection. Returns `None` if no more will come.
     fn accept(&mut self) -> Result<Option<Self::L>, Failed>
-        ensures next { IfOk result (Accepts Self.L.left Self.L.taken (coming self.old) (coming self.new)) }
+        ensures next { IfOk result (Accepts Self.L.left Self.L.taken (coming self.old)
+            (coming self.new)) }
         ensures fresh { IfOk result (λ link. IfSome link (λ l. Self.L.faults l ≡ 0)) }
         ensures unwritten { IfOk result (λ link. IfSome link (λ l.
             BeginsEmpty (written self.old) (Self.L.taken l))) }
@@ -99,7 +100,8 @@ pub trait Net: Faulted {
         ensures fresh { IfOk result (λ ds. All (λ d. Self.D.faults d ≡ 0) ds.items) }
         ensures unwritten { IfOk result (λ ds. All (λ d.
             BeginsEmpty (written self.old) (Self.D.written d)) ds.items) }
-        ensures links { IfOk result (λ ds. OpensListeners (listener_links self.old) (listener_links self.new)
+        ensures links { IfOk result (λ ds. OpensListeners (listener_links self.old)
+            (listener_links self.new)
             (map Self.D.coming ds.items)) }
         ensures failed { OnErr result (listener_links self.new ≡ listener_links self.old) }
         ensures asks { Grows (asked self.old) (asked self.new) ((place.now, number) ∷ []) }
@@ -111,7 +113,8 @@ pub trait Net: Faulted {
     /// Connects to an address.
     fn connect(&mut self, place: &str) -> Result<Self::L, Failed>
         ensures fresh { IfOk result (λ link. Self.L.faults link ≡ 0) }
-        ensures unwritten { IfOk result (λ link. BeginsEmpty (written self.old) (Self.L.taken link)) }
+        ensures unwritten { IfOk result
+            (λ link. BeginsEmpty (written self.old) (Self.L.taken link)) }
         ensures input { IfOk result (λ link. IfSome (next_input self.old)
             (λ input. Self.L.left link ≡ Some input)) }
         ensures asks { Grows (asked self.old) (asked self.new) ((place.now, 0) ∷ []) }
@@ -123,11 +126,13 @@ pub trait Net: Faulted {
     /// Closes a listener that this network opened. Does not allocate.
     fn close_listener(&mut self, listener: Self::D)
         ensures asked_stays { asked self.new ≡ asked self.old }
-        ensures written_grows { GrowsByTold (written self.old) (written self.new) (Self.D.written listener) }
+        ensures written_grows { GrowsByTold (written self.old) (written self.new)
+            (Self.D.written listener) }
         ensures links_stay { listener_links self.new ≡ listener_links self.old }
         ensures next_stays { next_input self.new ≡ next_input self.old }
         ensures closes { Closes (open_count self.old) (open_count self.new) }
-        ensures count { RisesWith (Self.faults self.old) (Self.faults self.new) (Self.D.faults listener) };
+        ensures count { RisesWith (Self.faults self.old) (Self.faults self.new)
+            (Self.D.faults listener) };
 
     /// Ends a connection that this network made. Does not allocate.
     fn close(&mut self, link: Self::L)
@@ -137,5 +142,6 @@ pub trait Net: Faulted {
         ensures links_stay { listener_links self.new ≡ listener_links self.old }
         ensures next_stays { next_input self.new ≡ next_input self.old }
         ensures closes { Closes (open_count self.old) (open_count self.new) }
-        ensures count { RisesWith (Self.faults self.old) (Self.faults self.new) (Self.L.faults link) };
+        ensures count { RisesWith (Self.faults self.old) (Self.faults self.new)
+            (Self.L.faults link) };
 }

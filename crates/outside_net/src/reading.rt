@@ -48,13 +48,16 @@ pub fn read_within<I: Source>(
     source: &mut I,
     most: u64,
 ) -> Result<Vec<u8>, ReadError>
-    ensures whole { IfOk result (λ all. Consumes (I.left source.old) (I.left source.new) all.items) }
+    ensures whole { IfOk result (λ all. Consumes (I.left source.old)
+        (I.left source.new) all.items) }
     ensures end { IfOk result (λ _. IsAtEnd (I.left source.new)) }
     ensures within { IfOk result (λ all. length all.items ≤ most) }
 
-    ensures too_long { IsErrOf result ReadError.TooLong → IfSome (I.left source.old) (λ left. most < length left) }
+    ensures too_long { IsErrOf result ReadError.TooLong
+        → IfSome (I.left source.old) (λ left. most < length left) }
     // A failed read occurs only within the limit.
-    ensures failed { IsErrOf result ReadError.Failed → ConsumesUpTo most (I.left source.old) (I.left source.new) }
+    ensures failed { IsErrOf result ReadError.Failed
+        → ConsumesUpTo most (I.left source.old) (I.left source.new) }
     // Past the limit at most one read is made.
     ensures part { ConsumesUpTo (most + PIECE) (I.left source.old) (I.left source.new) }
 

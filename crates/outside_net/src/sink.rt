@@ -34,7 +34,8 @@ pub trait Sink: Faulted {
 pub fn put_all<W: Sink>(sink: &mut W, bytes: &[u8]) -> Result<(), Failed>
     ensures all { OnOk result (Appends (W.taken sink.old) (W.taken sink.new) bytes.now) }
     ensures sure { length bytes.now ≤ W.sure_room sink.old → IsOk result }
-    ensures sure_stays { OnOk result (W.sure_room sink.old ≤ W.sure_room sink.new + length bytes.now) }
+    ensures sure_stays { OnOk result
+        (W.sure_room sink.old ≤ W.sure_room sink.new + length bytes.now) }
     ensures part { OnErr result (AppendsPrefix (W.taken sink.old) (W.taken sink.new) bytes.now) }
     ensures beside { W.beside_taken sink.new ≡ W.beside_taken sink.old }
     ensures count { CountsFaults (W.faults sink.old) (W.faults sink.new) result }

@@ -219,7 +219,8 @@ where
         number: u32,
     ) -> io::Result<(Vec<TcpAcceptor<R>>, Vec<Arc<Address, Global>>)>
         ensures as_many { IfOk result (λ opened. length opened.0.items ≡ number) }
-        ensures fresh { IfOk result (λ opened. All (λ listener. listener.faults ≡ 0) opened.0.items) }
+        ensures fresh { IfOk result (λ opened. All
+            (λ listener. listener.faults ≡ 0) opened.0.items) }
     {
         let (listener, address) = self.bound(place, number)?;
         let listener = shared(self.alloc, listener)?;

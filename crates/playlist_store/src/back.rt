@@ -21,7 +21,8 @@ pub(crate) fn take_back(lists: &mut Lists, named: &Named, revision: u32)
 }
 
 fn back_members(lists: &mut Lists, members: &[(u32, u32)], revision: u32)
-    ensures { 1 ≤ revision → ReturnsAt (ReturnsMembers revision members.now) lists.old.entries lists.new.entries }
+    ensures { 1 ≤ revision → ReturnsAt
+        (ReturnsMembers revision members.now) lists.old.entries lists.new.entries }
 {
     for member in members {
         back_member(lists, member.0, member.1, revision);
@@ -29,7 +30,8 @@ fn back_members(lists: &mut Lists, members: &[(u32, u32)], revision: u32)
 }
 
 fn back_member(lists: &mut Lists, id: u32, key: u32, revision: u32)
-    ensures { 1 ≤ revision → ChangesOne id (ReturnsKey revision key) lists.old.entries lists.new.entries }
+    ensures { 1 ≤ revision → ChangesOne id
+        (ReturnsKey revision key) lists.old.entries lists.new.entries }
 {
     match lists.get_mut(&id) {
         Some(list) => list.now.members.take_back(key, revision),
@@ -39,7 +41,8 @@ fn back_member(lists: &mut Lists, id: u32, key: u32, revision: u32)
 
 // Reverts the members of smart playlists that are among `items`.
 fn back_items(lists: &mut Lists, items: &[u32], revision: u32)
-    ensures { 1 ≤ revision → Everywhere (ReturnsItems revision items.now) lists.old.entries lists.new.entries }
+    ensures { 1 ≤ revision → Everywhere
+        (ReturnsItems revision items.now) lists.old.entries lists.new.entries }
 {
     let mut last = None;
     while let Some(id) = next_key(lists, last) {
@@ -49,7 +52,8 @@ fn back_items(lists: &mut Lists, items: &[u32], revision: u32)
 }
 
 fn back_rule(lists: &mut Lists, id: u32, items: &[u32], revision: u32)
-    ensures { 1 ≤ revision → ChangesOne id (ReturnsItems revision items.now) lists.old.entries lists.new.entries }
+    ensures { 1 ≤ revision → ChangesOne id
+        (ReturnsItems revision items.now) lists.old.entries lists.new.entries }
 {
     match lists.get_mut(&id) {
         Some(list) => back_kept(&mut list.now, items, revision),

@@ -36,10 +36,12 @@ pub(crate) fn take_in_batch<L: Ledger>(
     requires { 1 ≤ revision }
     ensures named { OnOk result (named.new.items ≡ named.old.items ++ names_of batch.now ∷ []) }
     ensures named_left { OnErr result (named.new.items ≡ named.old.items) }
-    ensures taken { OnOk result ((bs : List (List Edit)) (es : List Edit) → StandsFor bs items.now → edits bs ≡ es ++ batch.now → ((c : ℕ) → since_of (top lists.old.entries c) < revision)
+    ensures taken { OnOk result ((bs : List (List Edit)) (es : List Edit) → StandsFor bs items.now
+        → edits bs ≡ es ++ batch.now → ((c : ℕ) → since_of (top lists.old.entries c) < revision)
         → Tells revision es [] lists.old.entries lists.old.entries → Taken revision (edits bs) batch.now lists.old.entries lists.new.entries) }
     ensures frames { OnOk result (Frames revision batch.now lists.old.entries lists.new.entries) }
-    ensures left { OnErr result ((lists.new.entries ≡ lists.old.entries) ⊎ StepsBack revision batch.now lists.old.entries lists.new.entries) }
+    ensures left { OnErr result ((lists.new.entries ≡ lists.old.entries)
+        ⊎ StepsBack revision batch.now lists.old.entries lists.new.entries) }
     ensures cost { (bs : List (List Edit)) (most : List (ℕ × ℕ)) → StandsFor bs items.now
         → ((mid : KeptLists) → ((es : List Edit) → Tells revision es [] lists.old.entries lists.old.entries → Tells revision (es ++ batch.now) batch.now lists.old.entries mid)
         → (c : ℕ) → option_map_or (ticks_in revision (edits bs) (named_items batch.now)) (top mid c) 0 ≤ allowed c most)
@@ -85,7 +87,8 @@ fn take_in_all<L: Ledger>(
 ) -> Result<(), AllocError>
     requires some { 1 ≤ revision }
     requires ids { ids.now ≡ named_items batch.now }
-    ensures taken { OnOk result ((bs : List (List Edit)) (es : List Edit) → StandsFor bs items.now → edits bs ≡ es ++ batch.now → ((c : ℕ) → since_of (top lists.old.entries c) < revision)
+    ensures taken { OnOk result ((bs : List (List Edit)) (es : List Edit) → StandsFor bs items.now
+        → edits bs ≡ es ++ batch.now → ((c : ℕ) → since_of (top lists.old.entries c) < revision)
         → Tells revision es [] lists.old.entries lists.old.entries → Taken revision (edits bs) batch.now lists.old.entries lists.new.entries) }
     ensures frames { Frames revision batch.now lists.old.entries lists.new.entries }
     ensures cost { (bs : List (List Edit)) (most : List (ℕ × ℕ)) → StandsFor bs items.now
@@ -106,8 +109,11 @@ fn take_in_all<L: Ledger>(
 
 // Reverts the last batch, which made `revision`.
 pub(crate) fn take_back_batch(lists: &mut Lists, named: &mut VecDeque<Named>, revision: u32)
-    ensures named { (front : List Names) (names : Names) → named.old.items ≡ front ++ names ∷ [] → named.new.items ≡ front }
-    ensures lists { 1 ≤ revision → (front : List Names) (names : Names) → named.old.items ≡ front ++ names ∷ [] → TakesBack revision names lists.old.entries lists.new.entries }
+    ensures named { (front : List Names) (names : Names) → named.old.items ≡ front ++ names ∷ []
+        → named.new.items ≡ front }
+    ensures lists { 1 ≤ revision → (front : List Names) (names : Names)
+        → named.old.items ≡ front ++ names ∷ []
+        → TakesBack revision names lists.old.entries lists.new.entries }
 {
     match named.pop_back() {
         Some(names) => take_back(lists, &names, revision),

@@ -22,7 +22,9 @@ pub(crate) fn take_in(
     revision: u32,
 ) -> Result<(), AllocError>
     requires { 1 ≤ revision }
-    ensures tells { OnOk result ((es : List Edit) → Tells revision es [] lists.old.entries lists.old.entries → Tells revision (es ++ batch.now) batch.now lists.old.entries lists.new.entries) }
+    ensures tells { OnOk result ((es : List Edit)
+        → Tells revision es [] lists.old.entries lists.old.entries
+        → Tells revision (es ++ batch.now) batch.now lists.old.entries lists.new.entries) }
     ensures frames { Frames revision batch.now lists.old.entries lists.new.entries }
 {
     for edit in batch {
@@ -41,7 +43,9 @@ fn take_in_one(
     revision: u32,
 ) -> Result<(), AllocError>
     requires { 1 ≤ revision }
-    ensures tells { OnOk result ((es batch : List Edit) (first : KeptLists) → Tells revision es batch first lists.old.entries → Tells revision (es ++ edit.now ∷ []) (batch ++ edit.now ∷ []) first lists.new.entries) }
+    ensures tells { OnOk result ((es batch : List Edit) (first : KeptLists)
+        → Tells revision es batch first lists.old.entries
+        → Tells revision (es ++ edit.now ∷ []) (batch ++ edit.now ∷ []) first lists.new.entries) }
     ensures frames { Frames revision (edit.now ∷ []) lists.old.entries lists.new.entries }
 {
     match edit {
@@ -70,7 +74,8 @@ fn set_member(
     revision: u32,
     item: Option<u32>,
 ) -> Result<(), AllocError>
-    ensures sets { OnOk result (ChangesOne id (SetsMember revision key item) lists.old.entries lists.new.entries) }
+    ensures sets { OnOk result (ChangesOne id
+        (SetsMember revision key item) lists.old.entries lists.new.entries) }
     ensures leaves { ChangesOne id (LeavesMember revision key) lists.old.entries lists.new.entries }
 {
     match lists.get_mut(&id) {
@@ -100,8 +105,10 @@ fn set_in(
 
 // Adds the member to the index by item.
 fn note(near: &mut BTreeSet<(u32, u32)>, key: u32, item: Option<u32>) -> Result<(), AllocError>
-    ensures stay { (other k : ℕ) → list_any (is_at (near_cmp (other, k))) near.old.keys ≡ true → list_any (is_at (near_cmp (other, k))) near.new.keys ≡ true }
-    ensures noted { OnOk result ((other : ℕ) → item ≡ Some other → list_any (is_at (near_cmp (other, key))) near.new.keys ≡ true) }
+    ensures stay { (other k : ℕ) → list_any (is_at (near_cmp (other, k))) near.old.keys ≡ true
+        → list_any (is_at (near_cmp (other, k))) near.new.keys ≡ true }
+    ensures noted { OnOk result ((other : ℕ) → item ≡ Some other
+        → list_any (is_at (near_cmp (other, key))) near.new.keys ≡ true) }
 {
     match item {
         Some(item) => match near.insert((item, key)) {

@@ -16,7 +16,8 @@ use std::collections::{BTreeMap, BTreeSet};
 
 // Returns the ids of the existing lists, ascending.
 pub(crate) fn ids(alloc: Global, lists: &BTreeMap<u32, ListHistory>) -> Result<Vec<u32>, AllocError>
-    ensures ids { IfOk result (λ ids. ids.items ≡ keys_of (filter (λ e. is_some e.1.now.head) lists.now.entries)) }
+    ensures ids { IfOk result (λ ids. ids.items
+        ≡ keys_of (filter (λ e. is_some e.1.now.head) lists.now.entries)) }
     ensures ascending { IfOk result (λ _. IsStrictlySortedBy nat_cmp (keys_of lists.now.entries)) }
 {
     let mut ids = Vec::new(alloc);
@@ -30,7 +31,8 @@ pub(crate) fn ids(alloc: Global, lists: &BTreeMap<u32, ListHistory>) -> Result<V
 
 // Returns `count`, plus one if `is_counted`.
 fn count_with(count: u32, is_counted: bool) -> u32
-    ensures { count + (if is_counted then 1 else 0) < 2 ^ 32 → result ≡ count + (if is_counted then 1 else 0) }
+    ensures { count + (if is_counted then 1 else 0) < 2 ^ 32
+        → result ≡ count + (if is_counted then 1 else 0) }
 {
     if is_counted {
         return count.saturating_add(1);
@@ -40,7 +42,8 @@ fn count_with(count: u32, is_counted: bool) -> u32
 
 // Returns the number of existing lists.
 pub(crate) fn count(lists: &BTreeMap<u32, ListHistory>) -> u32
-    ensures count { length (filter (λ e. is_some e.1.now.head) lists.now.entries) < 2 ^ 32 → result ≡ length (filter (λ e. is_some e.1.now.head) lists.now.entries) }
+    ensures count { length (filter (λ e. is_some e.1.now.head) lists.now.entries) < 2 ^ 32
+        → result ≡ length (filter (λ e. is_some e.1.now.head) lists.now.entries) }
     ensures ascending { IsStrictlySortedBy nat_cmp (keys_of lists.now.entries) }
 {
     let mut count = 0;

@@ -45,7 +45,8 @@ fn put_newest<T: Drop>(
     replaces: bool,
 ) -> Result<(), AllocError>
     ensures now { OnOk result (now.new ≡ value) }
-    ensures older { OnOk result (older.new.items ≡ (if replaces then older.old.items else now.old ∷ older.old.items)) }
+    ensures older { OnOk result (older.new.items
+        ≡ (if replaces then older.old.items else now.old ∷ older.old.items)) }
     ensures left { OnErr result (now.new ≡ now.old) }
     ensures left_older { OnErr result (older.new.items ≡ older.old.items) }
 {
@@ -73,7 +74,8 @@ fn put_first(alloc: Global, lists: &mut Lists, id: u32, kept: ListVersion) -> Re
 }
 
 fn insert<T: Drop>(map: &mut BTreeMap<u32, T>, id: u32, value: T) -> Result<(), AllocError>
-    ensures put { OnOk result ((q : ℕ) → at q map.new.entries ≡ (if id == q then Some value else at q map.old.entries)) }
+    ensures put { OnOk result ((q : ℕ)
+        → at q map.new.entries ≡ (if id == q then Some value else at q map.old.entries)) }
     ensures left { OnErr result ((q : ℕ) → at q map.new.entries ≡ at q map.old.entries) }
 {
     match map.insert(id, value) {
@@ -92,7 +94,8 @@ pub(crate) fn pop_all(lists: &mut Lists, ids: &[u32], revision: u32)
 }
 
 fn pop(lists: &mut Lists, id: u32, revision: u32)
-    ensures here { 1 ≤ revision → PopsOne revision (at id lists.old.entries) (at id lists.new.entries) }
+    ensures here { 1 ≤ revision → PopsOne revision (at id lists.old.entries)
+        (at id lists.new.entries) }
     ensures others { (q : ℕ) → (id == q) ≡ false → at q lists.new.entries ≡ at q lists.old.entries }
 {
     if pop_at(lists, id, revision) {
@@ -101,7 +104,8 @@ fn pop(lists: &mut Lists, id: u32, revision: u32)
 }
 
 fn pop_at(lists: &mut Lists, id: u32, revision: u32) -> bool
-    ensures here { 1 ≤ revision → PopsOne revision (at id lists.old.entries) (if result then None else at id lists.new.entries) }
+    ensures here { 1 ≤ revision → PopsOne revision (at id lists.old.entries) (if result then None
+        else at id lists.new.entries) }
     ensures others { (q : ℕ) → (id == q) ≡ false → at q lists.new.entries ≡ at q lists.old.entries }
 {
     match lists.get_mut(&id) {
@@ -113,7 +117,8 @@ fn pop_at(lists: &mut Lists, id: u32, revision: u32) -> bool
 // Returns whether no version is left.
 fn step_back(list: &mut ListHistory, revision: u32) -> bool
     ensures gone { result ≡ true → (v : ℕ) → v < revision → found_in list.old v ≡ None }
-    ensures left { result ≡ false → (v : ℕ) → v < revision → found_in list.new v ≡ found_in list.old v }
+    ensures left { result ≡ false → (v : ℕ) → v < revision
+        → found_in list.new v ≡ found_in list.old v }
     ensures since { result ≡ false → list.new.now.since < revision }
 {
     let ListHistory { now, older } = list;

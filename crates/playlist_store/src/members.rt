@@ -21,13 +21,17 @@ use key_versions::Versions;
 use std::alloc::{AllocError, Global};
 
 fn is_there(items: &ItemStore, id: u32) -> bool
-    ensures { (bs : List (List Edit)) → item_stands.StandsFor bs items.now → result ≡ is_some (item_at (edits bs) id) }
+    ensures { (bs : List (List Edit)) → item_stands.StandsFor bs items.now
+        → result ≡ is_some (item_at (edits bs) id) }
 {
     items.get(id).is_some()
 }
 
 fn member_under(members: &Versions<u32>, key: u32, items: &ItemStore) -> Option<Member>
-    ensures { (bs : List (List Edit)) → item_stands.StandsFor bs items.now → option_map pair_of result ≡ option_map (λ id. (key, id)) (option_and_then (there (edits bs)) (newest_value (versions_at key members.now))) }
+    ensures { (bs : List (List Edit)) → item_stands.StandsFor bs items.now
+        → option_map pair_of result
+        ≡ option_map (λ id. (key, id))
+        (option_and_then (there (edits bs)) (newest_value (versions_at key members.now))) }
 {
     match members.newest(key) {
         Some(item) => member_of(key, *item, items),
@@ -36,7 +40,8 @@ fn member_under(members: &Versions<u32>, key: u32, items: &ItemStore) -> Option<
 }
 
 fn member_of(key: u32, item: u32, items: &ItemStore) -> Option<Member>
-    ensures { (bs : List (List Edit)) → item_stands.StandsFor bs items.now → option_map pair_of result ≡ option_map (λ id. (key, id)) (there (edits bs) item) }
+    ensures { (bs : List (List Edit)) → item_stands.StandsFor bs items.now
+        → option_map pair_of result ≡ option_map (λ id. (key, id)) (there (edits bs) item) }
 {
     if is_there(items, item) {
         return Some(Member { key, item });
@@ -45,7 +50,8 @@ fn member_of(key: u32, item: u32, items: &ItemStore) -> Option<Member>
 }
 
 fn push_some(found: &mut Vec<Member>, member: Option<Member>) -> Result<(), AllocError>
-    ensures { OnOk result (map pair_of found.new.items ≡ map pair_of found.old.items ++ option_to_list (option_map pair_of member)) }
+    ensures { OnOk result (map pair_of found.new.items
+        ≡ map pair_of found.old.items ++ option_to_list (option_map pair_of member)) }
 {
     if let Some(member) = member {
         found.push(member)?;
@@ -59,7 +65,10 @@ fn members_under(
     keys: &[u32],
     items: &ItemStore,
 ) -> Result<Vec<Member>, AllocError>
-    ensures { IfOk result (λ found. (bs : List (List Edit)) → item_stands.StandsFor bs items.now → map pair_of found.items ≡ pairs_at (λ key. option_and_then (there (edits bs)) (newest_value (versions_at key members.now))) keys.now) }
+    ensures { IfOk result (λ found. (bs : List (List Edit)) → item_stands.StandsFor bs items.now
+        → map pair_of found.items
+        ≡ pairs_at (λ key. option_and_then (there (edits bs))
+        (newest_value (versions_at key members.now))) keys.now) }
 {
     let mut found = Vec::new(alloc);
     for key in keys {
@@ -74,7 +83,8 @@ pub(crate) fn members(
     members: &Versions<u32>,
     items: &ItemStore,
 ) -> Result<Vec<Member>, AllocError>
-    ensures { IfOk result (λ found. (bs : List (List Edit)) (c : ℕ) → item_stands.StandsFor bs items.now → (c == base_list) ≡ false
+    ensures { IfOk result (λ found. (bs : List (List Edit)) (c : ℕ)
+        → item_stands.StandsFor bs items.now → (c == base_list) ≡ false
         → ((key : ℕ) → newest_value (versions_at key members.now) ≡ standing (list_at (edits bs) c) (edits bs) c key)
         → map pair_of found.items ≡ map (λ row. (row.0, row.1.id)) (rows (edits bs) (Container c) None)) }
 {

@@ -36,7 +36,8 @@ pub(crate) fn prune_to(
 
 // Removes versions of the lists in the last two batches that are read at no revision from `before` on.
 fn forget_last(alloc: Global, lists: &mut Lists, named: &VecDeque<Named>, before: u32)
-    ensures { (floor : ℕ) → floor ≤ before → PrunesAll floor before lists.old.entries lists.new.entries }
+    ensures { (floor : ℕ) → floor ≤ before
+        → PrunesAll floor before lists.old.entries lists.new.entries }
 {
     for index in named.len().saturating_sub(2)..named.len() {
         forget_all(alloc, lists, named[index].lists.as_slice(), before);
@@ -44,7 +45,8 @@ fn forget_last(alloc: Global, lists: &mut Lists, named: &VecDeque<Named>, before
 }
 
 fn forget_all(alloc: Global, lists: &mut Lists, ids: &[u32], before: u32)
-    ensures { (floor : ℕ) → floor ≤ before → PrunesAll floor before lists.old.entries lists.new.entries }
+    ensures { (floor : ℕ) → floor ≤ before
+        → PrunesAll floor before lists.old.entries lists.new.entries }
 {
     for id in ids {
         forget(alloc, lists, *id, before);
@@ -75,7 +77,9 @@ fn forget_older(alloc: Global, list: &mut ListHistory, before: u32)
 }
 
 fn is_first_seen(older: &VecDeque<ListVersion>, before: u32) -> bool
-    ensures { result ≡ true → (v : ℕ) → before ≤ v → find (λ kept. nat_le kept.since v) (take 1 older.now.items) ≡ find (λ kept. nat_le kept.since v) older.now.items }
+    ensures { result ≡ true → (v : ℕ) → before ≤ v
+        → find (λ kept. nat_le kept.since v) (take 1 older.now.items)
+        ≡ find (λ kept. nat_le kept.since v) older.now.items }
 {
     if older.is_empty() {
         return false;
@@ -85,7 +89,8 @@ fn is_first_seen(older: &VecDeque<ListVersion>, before: u32) -> bool
 
 fn prune_batch(lists: &mut Lists, named: &mut VecDeque<Named>, floor: u32)
     ensures named { named.new.items ≡ drop 1 named.old.items }
-    ensures lists { (before : ℕ) → floor ≤ before → PrunesAll floor before lists.old.entries lists.new.entries }
+    ensures lists { (before : ℕ) → floor ≤ before
+        → PrunesAll floor before lists.old.entries lists.new.entries }
 {
     match named.pop_front() {
         Some(names) => prune_named(lists, &names, floor),
@@ -94,7 +99,8 @@ fn prune_batch(lists: &mut Lists, named: &mut VecDeque<Named>, floor: u32)
 }
 
 fn prune_named(lists: &mut Lists, names: &Named, floor: u32)
-    ensures { (before : ℕ) → floor ≤ before → PrunesAll floor before lists.old.entries lists.new.entries }
+    ensures { (before : ℕ) → floor ≤ before
+        → PrunesAll floor before lists.old.entries lists.new.entries }
 {
     drop_all(lists, names.lists.as_slice(), floor);
     prune_members(lists, names.members.as_slice(), floor);
@@ -106,7 +112,8 @@ fn prune_named(lists: &mut Lists, names: &Named, floor: u32)
 
 // Removes lists that were dropped at `floor` or before.
 fn drop_all(lists: &mut Lists, ids: &[u32], floor: u32)
-    ensures { (before : ℕ) → floor ≤ before → PrunesAll floor before lists.old.entries lists.new.entries }
+    ensures { (before : ℕ) → floor ≤ before
+        → PrunesAll floor before lists.old.entries lists.new.entries }
 {
     for id in ids {
         drop_gone(lists, *id, floor);
@@ -114,7 +121,8 @@ fn drop_all(lists: &mut Lists, ids: &[u32], floor: u32)
 }
 
 fn drop_gone(lists: &mut Lists, id: u32, floor: u32)
-    ensures { (before : ℕ) → floor ≤ before → PrunesAll floor before lists.old.entries lists.new.entries }
+    ensures { (before : ℕ) → floor ≤ before
+        → PrunesAll floor before lists.old.entries lists.new.entries }
 {
     if is_gone(lists, id, floor) {
         remove(lists, id);
@@ -195,7 +203,9 @@ fn prune_key(kept: &mut ListVersion, key: u32, floor: u32)
 }
 
 fn forget_pair(members: &Versions<u32>, near: &mut BTreeSet<(u32, u32)>, item: u32, key: u32)
-    ensures { (k other base : ℕ) → value_at members.now k base ≡ Some other → list_any (is_at (near_cmp (other, k))) near.old.keys ≡ true → list_any (is_at (near_cmp (other, k))) near.new.keys ≡ true }
+    ensures { (k other base : ℕ) → value_at members.now k base ≡ Some other
+        → list_any (is_at (near_cmp (other, k))) near.old.keys ≡ true
+        → list_any (is_at (near_cmp (other, k))) near.new.keys ≡ true }
 {
     if !members.has_number(key, item) {
         near.remove(&(item, key));

@@ -26,7 +26,9 @@ use std::alloc::AllocError;
 
 // Returns whether a base is in the window and at or after the last put or drop of the list.
 fn is_kept(keep: u32, revision: u32, list: u32, since: u32, base: u32) -> bool
-    ensures { result ≡ (nat_le first_revision base && (nat_le base revision && (nat_le revision (base + keep) && ((list == base_list) || nat_le since base)))) }
+    ensures { result ≡ (nat_le first_revision base
+        && (nat_le base revision
+        && (nat_le revision (base + keep) && ((list == base_list) || nat_le since base)))) }
 {
     FIRST_REVISION <= base
         && base <= revision
@@ -37,7 +39,8 @@ fn is_kept(keep: u32, revision: u32, list: u32, since: u32, base: u32) -> bool
 impl PlaylistStore {
     /// Returns the name and the rule of an existing list.
     pub fn head(&self, list: u32) -> Option<&ListHead>
-        ensures { (bs : List (List Edit)) → StandsFor bs self.now → option_copied result ≡ option_map head_of (list_at (edits bs) list) }
+        ensures { (bs : List (List Edit)) → StandsFor bs self.now
+            → option_copied result ≡ option_map head_of (list_at (edits bs) list) }
     {
         tops::head(&self.lists, list)
     }
@@ -45,14 +48,16 @@ impl PlaylistStore {
     /// Returns the ids of the existing lists, ascending, without container 1.
     /// Returns `AllocError` if allocation fails.
     pub fn lists(&self) -> Result<Vec<u32>, AllocError>
-        ensures { IfOk result (λ ids. (bs : List (List Edit)) → StandsFor bs self.now → ids.items ≡ keys_of (lists (edits bs))) }
+        ensures { IfOk result (λ ids. (bs : List (List Edit)) → StandsFor bs self.now
+            → ids.items ≡ keys_of (lists (edits bs))) }
     {
         listed::ids(self.alloc, &self.lists)
     }
 
     /// Returns the number of existing lists.
     pub fn count(&self) -> u32
-        ensures { (bs : List (List Edit)) → StandsFor bs self.now → result ≡ length (lists (edits bs)) }
+        ensures { (bs : List (List Edit)) → StandsFor bs self.now
+            → result ≡ length (lists (edits bs)) }
     {
         listed::count(&self.lists)
     }
@@ -60,7 +65,8 @@ impl PlaylistStore {
     /// Returns how many lists there would be after the edits `more`.
     /// Returns `AllocError` if allocation fails.
     pub fn count_after(&self, more: &[Edit]) -> Result<usize, AllocError>
-        ensures { IfOk result (λ count. (bs : List (List Edit)) → StandsFor bs self.now → count ≡ length (lists (edits bs ++ more.now))) }
+        ensures { IfOk result (λ count. (bs : List (List Edit)) → StandsFor bs self.now
+            → count ≡ length (lists (edits bs ++ more.now))) }
     {
         if !listed::has_list(more) {
             return Ok(self.count() as usize);
@@ -74,7 +80,8 @@ impl PlaylistStore {
     /// Returns whether `base` is in the delta window of `list`: recent enough, and with no later put or drop of the
     /// list.
     pub fn kept(&self, list: u32, base: u32) -> bool
-        ensures { (bs : List (List Edit)) → StandsFor bs self.now → result ≡ is_kept self.now.keep bs (Container list) base }
+        ensures { (bs : List (List Edit)) → StandsFor bs self.now
+            → result ≡ is_kept self.now.keep bs (Container list) base }
     {
         let since = tops::since(&self.lists, list);
         is_kept(self.keep, self.revision, list, since, base)
@@ -85,7 +92,8 @@ impl PlaylistStore {
     /// Returns `AllocError` if allocation fails.
     pub fn members(&self, list: u32, items: &ItemStore) -> Result<Option<Vec<Member>>, AllocError>
         requires { (list == base_list) ≡ false }
-        ensures { IfOk result (λ found. (bs : List (List Edit)) → StandsFor bs self.now → item_stands.StandsFor bs items.now
+        ensures { IfOk result (λ found. (bs : List (List Edit)) → StandsFor bs self.now
+            → item_stands.StandsFor bs items.now
             → option_map (λ members. map pair_of members.items) found
             ≡ option_map (λ _. map (λ row. (row.0, row.1.id)) (rows (edits bs) (Container list) None)) (list_at (edits bs) list)) }
     {
@@ -114,7 +122,8 @@ impl PlaylistStore {
         requires to { base ≤ self.now.revision }
         requires keep { items.now.keep ≡ self.now.keep }
         requires revision { items.now.revision ≡ self.now.revision }
-        ensures { IfOk result (λ keys. (bs : List (List Edit)) → StandsFor bs self.now → item_stands.StandsFor bs items.now → keys.items ≡ touched bs (Container list) base) }
+        ensures { IfOk result (λ keys. (bs : List (List Edit)) → StandsFor bs self.now
+            → item_stands.StandsFor bs items.now → keys.items ≡ touched bs (Container list) base) }
     {
         match tops::top(&self.lists, list) {
             Some(kept) => match &kept.head {
@@ -134,7 +143,8 @@ impl PlaylistStore {
     /// Returns the id of the item under `key` of `list` at `base`, a base in the list's delta window.
     pub fn member_at(&self, list: u32, key: u32, base: u32) -> Option<u32>
         requires { (list == base_list) ≡ false }
-        ensures { (bs : List (List Edit)) → StandsFor bs self.now → is_kept self.now.keep bs (Container list) base ≡ true
+        ensures { (bs : List (List Edit)) → StandsFor bs self.now
+            → is_kept self.now.keep bs (Container list) base ≡ true
             → result ≡ standing (list_at (edits bs) list) (edits (up_to bs base)) list key }
     {
         tops::member(&self.lists, list, key, base)

@@ -30,7 +30,8 @@ pub(crate) fn test_lists<L: Ledger>(
     items: &ItemStore,
     steps: &mut Steps<L>,
 ) -> Result<(), AllocError>
-    ensures tests { OnOk result ((bs : List (List Edit)) → StandsFor bs items.now → Everywhere (TestsRule revision (edits bs) ids.now) lists.old.entries lists.new.entries) }
+    ensures tests { OnOk result ((bs : List (List Edit)) → StandsFor bs items.now
+        → Everywhere (TestsRule revision (edits bs) ids.now) lists.old.entries lists.new.entries) }
     ensures leaves { Everywhere (LeavesRule revision ids.now) lists.old.entries lists.new.entries }
     ensures cost { (bs : List (List Edit)) (most : List (ℕ × ℕ)) → StandsFor bs items.now
         → ((c : ℕ) → option_map_or (ticks_in revision (edits bs) ids.now) (top lists.old.entries c) 0 ≤ allowed c most)
@@ -55,9 +56,14 @@ fn test_list<L: Ledger>(
     items: &ItemStore,
     steps: &mut Steps<L>,
 ) -> Result<(), AllocError>
-    ensures tests { OnOk result ((bs : List (List Edit)) → StandsFor bs items.now → ChangesOne id (TestsRule revision (edits bs) ids.now) lists.old.entries lists.new.entries) }
-    ensures leaves { ChangesOne id (LeavesRule revision ids.now) lists.old.entries lists.new.entries }
-    ensures cost { (bs : List (List Edit)) → StandsFor bs items.now → steps.new ≤ steps.old + option_map_or (ticks_in revision (edits bs) ids.now) (top lists.old.entries id) 0 }
+    ensures tests { OnOk result ((bs : List (List Edit)) → StandsFor bs items.now
+        → ChangesOne id (TestsRule revision (edits bs) ids.now) lists.old.entries
+        lists.new.entries) }
+    ensures leaves { ChangesOne id
+        (LeavesRule revision ids.now) lists.old.entries lists.new.entries }
+    ensures cost { (bs : List (List Edit)) → StandsFor bs items.now
+        → steps.new ≤ steps.old + option_map_or (ticks_in revision (edits bs) ids.now)
+        (top lists.old.entries id) 0 }
 {
     match lists.get_mut(&id) {
         Some(list) => test_kept(&mut list.now, ids, revision, items, steps),
@@ -72,9 +78,11 @@ fn test_kept<L: Ledger>(
     items: &ItemStore,
     steps: &mut Steps<L>,
 ) -> Result<(), AllocError>
-    ensures tests { OnOk result ((bs : List (List Edit)) → StandsFor bs items.now → TestsRule revision (edits bs) ids.now kept.old kept.new) }
+    ensures tests { OnOk result ((bs : List (List Edit)) → StandsFor bs items.now
+        → TestsRule revision (edits bs) ids.now kept.old kept.new) }
     ensures leaves { LeavesRule revision ids.now kept.old kept.new }
-    ensures cost { (bs : List (List Edit)) → StandsFor bs items.now → steps.new ≤ steps.old + ticks_in revision (edits bs) ids.now kept.old }
+    ensures cost { (bs : List (List Edit)) → StandsFor bs items.now
+        → steps.new ≤ steps.old + ticks_in revision (edits bs) ids.now kept.old }
 {
     let is_new = kept.since == revision;
     match &kept.head {
@@ -99,9 +107,12 @@ fn test_rule<L: Ledger>(
 ) -> Result<(), AllocError>
     ensures tests { OnOk result ((bs : List (List Edit)) → StandsFor bs items.now → (key base : ℕ)
         → value_at members.new key base ≡ (if is_among key (tested_ids is_new (edits bs) ids.now) && nat_le revision base then ruled rule.now key (item_at (edits bs) key) else value_at members.old key base)) }
-    ensures below { (key base : ℕ) → base < revision → value_at members.new key base ≡ value_at members.old key base }
-    ensures others { is_new ≡ false → (key base : ℕ) → is_among key ids.now ≡ false → value_at members.new key base ≡ value_at members.old key base }
-    ensures cost { (bs : List (List Edit)) → StandsFor bs items.now → steps.new ≤ steps.old + length (tested_ids is_new (edits bs) ids.now) }
+    ensures below { (key base : ℕ) → base < revision
+        → value_at members.new key base ≡ value_at members.old key base }
+    ensures others { is_new ≡ false → (key base : ℕ) → is_among key ids.now ≡ false
+        → value_at members.new key base ≡ value_at members.old key base }
+    ensures cost { (bs : List (List Edit)) → StandsFor bs items.now
+        → steps.new ≤ steps.old + length (tested_ids is_new (edits bs) ids.now) }
 {
     if !is_new {
         return test_ids(rule, members, ids, revision, items, steps);
@@ -122,8 +133,10 @@ fn test_ids<L: Ledger>(
 ) -> Result<(), AllocError>
     ensures tests { OnOk result ((bs : List (List Edit)) → StandsFor bs items.now → (key base : ℕ)
         → value_at members.new key base ≡ (if is_among key ids.now && nat_le revision base then ruled rule.now key (item_at (edits bs) key) else value_at members.old key base)) }
-    ensures below { (key base : ℕ) → base < revision → value_at members.new key base ≡ value_at members.old key base }
-    ensures others { (key base : ℕ) → is_among key ids.now ≡ false → value_at members.new key base ≡ value_at members.old key base }
+    ensures below { (key base : ℕ) → base < revision
+        → value_at members.new key base ≡ value_at members.old key base }
+    ensures others { (key base : ℕ) → is_among key ids.now ≡ false
+        → value_at members.new key base ≡ value_at members.old key base }
     ensures cost { steps.new ≤ steps.old + length ids.now }
 {
     for id in ids {
@@ -145,8 +158,10 @@ fn test_id<L: Ledger>(
 ) -> Result<(), AllocError>
     ensures tests { OnOk result ((bs : List (List Edit)) → StandsFor bs items.now → (key base : ℕ)
         → value_at members.new key base ≡ (if (id == key) && nat_le revision base then ruled rule.now key (item_at (edits bs) key) else value_at members.old key base)) }
-    ensures below { (key base : ℕ) → base < revision → value_at members.new key base ≡ value_at members.old key base }
-    ensures others { (key base : ℕ) → (id == key) ≡ false → value_at members.new key base ≡ value_at members.old key base }
+    ensures below { (key base : ℕ) → base < revision
+        → value_at members.new key base ≡ value_at members.old key base }
+    ensures others { (key base : ℕ) → (id == key) ≡ false
+        → value_at members.new key base ≡ value_at members.old key base }
     ensures cost { steps.new ≤ steps.old + 1 }
 {
     let item = ruled(rule, id, items, steps);
@@ -155,7 +170,8 @@ fn test_id<L: Ledger>(
 
 // Returns `id` if the rule matches its item.
 fn ruled<L: Ledger>(rule: &Query, id: u32, items: &ItemStore, steps: &mut Steps<L>) -> Option<u32>
-    ensures ruled { (bs : List (List Edit)) → StandsFor bs items.now → result ≡ ruled rule.now id (item_at (edits bs) id) }
+    ensures ruled { (bs : List (List Edit)) → StandsFor bs items.now
+        → result ≡ ruled rule.now id (item_at (edits bs) id) }
     ensures cost { steps.new ≤ steps.old + 1 }
 {
     match items.get(id) {

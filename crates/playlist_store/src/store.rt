@@ -93,11 +93,15 @@ impl PlaylistStore {
     ) -> Result<(), AllocError>
         requires next { revision ≡ self.old.revision + 1 }
         requires valid { AreValid batch.now }
-        ensures stands { OnOk result ((bs : List (List Edit)) → StandsFor bs self.old → item_stands.StandsFor (bs ++ batch.now ∷ []) items.now → StandsFor (bs ++ batch.now ∷ []) self.new) }
+        ensures stands { OnOk result ((bs : List (List Edit)) → StandsFor bs self.old
+            → item_stands.StandsFor (bs ++ batch.now ∷ []) items.now
+            → StandsFor (bs ++ batch.now ∷ []) self.new) }
         ensures undo { OnOk result (self.new.can_undo ≡ true) }
         ensures keep { self.new.keep ≡ self.old.keep }
         ensures unchanged { OnErr result (IsUnchanged self.old self.new) }
-        ensures cost { (bs : List (List Edit)) → StandsFor bs self.old → item_stands.StandsFor (bs ++ batch.now ∷ []) items.now → steps.new ≤ steps.old + tests_of (edits (bs ++ batch.now ∷ [])) batch.now }
+        ensures cost { (bs : List (List Edit)) → StandsFor bs self.old
+            → item_stands.StandsFor (bs ++ batch.now ∷ []) items.now
+            → steps.new ≤ steps.old + tests_of (edits (bs ++ batch.now ∷ [])) batch.now }
     {
         let taken = take_in_batch(
             self.alloc,
@@ -132,7 +136,8 @@ impl PlaylistStore {
     /// Reverts the last batch. Does not allocate. It can be called once after an `apply` that returned `Ok`.
     pub fn undo(&mut self)
         requires { self.old.can_undo ≡ true }
-        ensures stands { (bs : List (List Edit)) (batch : List Edit) → StandsFor (bs ++ batch ∷ []) self.old → StandsFor bs self.new }
+        ensures stands { (bs : List (List Edit)) (batch : List Edit)
+            → StandsFor (bs ++ batch ∷ []) self.old → StandsFor bs self.new }
         ensures keep { self.new.keep ≡ self.old.keep }
         ensures once { self.new.can_undo ≡ false }
     {

@@ -25,7 +25,8 @@ fn has_item(members: &Versions<u32>, key: u32, item: u32) -> bool
 }
 
 fn put_if(keys: &mut BTreeSet<u32>, key: u32, is_wanted: bool) -> Result<(), AllocError>
-    ensures { OnOk result ((q : ℕ) → is_key q keys.new.keys ≡ (is_key q keys.old.keys || (is_wanted && (key == q)))) }
+    ensures { OnOk result ((q : ℕ)
+        → is_key q keys.new.keys ≡ (is_key q keys.old.keys || (is_wanted && (key == q)))) }
 {
     if is_wanted {
         keys.insert(key)?;
@@ -39,7 +40,9 @@ fn put_members(
     list: u32,
     members: &[(u32, u32)],
 ) -> Result<(), AllocError>
-    ensures { OnOk result ((q : ℕ) → is_key q keys.new.keys ≡ (is_key q keys.old.keys || list_any (is_member list q) members.now)) }
+    ensures { OnOk result ((q : ℕ)
+        → is_key q keys.new.keys
+        ≡ (is_key q keys.old.keys || list_any (is_member list q) members.now)) }
 {
     for member in members {
         put_if(keys, member.1, member.0 == list)?;
@@ -49,7 +52,8 @@ fn put_members(
 
 // Adds the keys of the members that have `item`.
 fn put_item(keys: &mut BTreeSet<u32>, kept: &ListVersion, item: u32) -> Result<(), AllocError>
-    ensures { OnOk result ((q : ℕ) → is_key q keys.new.keys ≡ (is_key q keys.old.keys || is_item_of kept.now q item)) }
+    ensures { OnOk result ((q : ℕ)
+        → is_key q keys.new.keys ≡ (is_key q keys.old.keys || is_item_of kept.now q item)) }
 {
     let bounds = (
         Bound::Included((item, 0)),
@@ -62,7 +66,9 @@ fn put_item(keys: &mut BTreeSet<u32>, kept: &ListVersion, item: u32) -> Result<(
 }
 
 fn put_items(keys: &mut BTreeSet<u32>, kept: &ListVersion, items: &[u32]) -> Result<(), AllocError>
-    ensures { OnOk result ((q : ℕ) → is_key q keys.new.keys ≡ (is_key q keys.old.keys || list_any (is_item_of kept.now q) items.now)) }
+    ensures { OnOk result ((q : ℕ)
+        → is_key q keys.new.keys
+        ≡ (is_key q keys.old.keys || list_any (is_item_of kept.now q) items.now)) }
 {
     for item in items {
         put_item(keys, kept, *item)?;
@@ -76,7 +82,9 @@ fn put_named(
     kept: &ListVersion,
     named: &Named,
 ) -> Result<(), AllocError>
-    ensures { OnOk result ((q : ℕ) → is_key q keys.new.keys ≡ (is_key q keys.old.keys || is_touched_by kept.now list q named.now)) }
+    ensures { OnOk result ((q : ℕ)
+        → is_key q keys.new.keys
+        ≡ (is_key q keys.old.keys || is_touched_by kept.now list q named.now)) }
 {
     put_members(keys, list, named.members.as_slice())?;
     put_items(keys, kept, named.items.as_slice())
@@ -101,7 +109,9 @@ pub(crate) fn touched(
     named: &VecDeque<Named>,
     passed: usize,
 ) -> Result<Vec<u32>, AllocError>
-    ensures keys { IfOk result (λ keys. (q : ℕ) → is_key q keys.items ≡ list_any (is_touched_by kept.now list q) (drop passed named.now.items)) }
+    ensures keys { IfOk result (λ keys. (q : ℕ)
+        → is_key q keys.items ≡ list_any (is_touched_by kept.now list q)
+        (drop passed named.now.items)) }
     ensures ascending { IfOk result (λ keys. IsStrictlySortedBy nat_cmp keys.items) }
 {
     let mut keys = BTreeSet::new(alloc);

@@ -64,7 +64,8 @@ fn text_asked(cond: &Cond) -> Option<(Browse, &str)>
 }
 
 fn text_of_condition(query: &Query) -> Option<(Browse, &str)>
-    ensures { option_map (λ asked. (asked.0, asked.1.now)) result ≡ text_of_condition (tree_of query.now) }
+    ensures { option_map (λ asked. (asked.0, asked.1.now)) result
+        ≡ text_of_condition (tree_of query.now) }
 {
     match query {
         Query::Cond(cond) => text_asked(cond),
@@ -73,7 +74,8 @@ fn text_of_condition(query: &Query) -> Option<(Browse, &str)>
 }
 
 fn first_text(members: &[Query]) -> Option<(Browse, &str)>
-    ensures { option_map (λ asked. (asked.0, asked.1.now)) result ≡ first_text (queries_of (map tree_of members.now)) }
+    ensures { option_map (λ asked. (asked.0, asked.1.now)) result
+        ≡ first_text (queries_of (map tree_of members.now)) }
 {
     for member in members {
         if let Some(asked) = text_of_condition(member) {
@@ -85,7 +87,8 @@ fn first_text(members: &[Query]) -> Option<(Browse, &str)>
 
 /// The text without which the query is not met, and where.
 pub(crate) fn needed_text(query: &Query) -> Option<(Browse, &str)>
-    ensures { option_map (λ asked. (asked.0, asked.1.now)) result ≡ needed_text (tree_of query.now) }
+    ensures { option_map (λ asked. (asked.0, asked.1.now)) result
+        ≡ needed_text (tree_of query.now) }
 {
     match query {
         Query::Cond(cond) => text_asked(cond),

@@ -49,7 +49,8 @@ pub(crate) fn add<'a>(
     old: Option<&'a Row>,
     new: Option<&'a Row>,
 ) -> Result<(), AllocError>
-    ensures { OnOk result ((rows now : List (ℕ × Row)) → TurnTo rows now turns.old.entries → IsAscending now
+    ensures { OnOk result ((rows now : List (ℕ × Row)) → TurnTo rows now turns.old.entries
+        → IsAscending now
         → Fits now (option_copied old.entry) (option_copied new.entry)
         → TurnTo rows (after now (option_copied old.entry) (option_copied new.entry)) turns.new.entries) }
 {
@@ -76,7 +77,8 @@ pub(crate) fn turns_of(
     alloc: Global,
     changes: &[Change],
 ) -> Result<BTreeMap<u32, Turn<'_>>, AllocError>
-    ensures { IfOk result (λ turns. (rows : List (ℕ × Row)) → IsAscending rows → FitInTurn rows changes.now
+    ensures { IfOk result (λ turns. (rows : List (ℕ × Row)) → IsAscending rows
+        → FitInTurn rows changes.now
         → TurnTo rows (after_all rows changes.now) turns.entries) }
 {
     let mut turns = BTreeMap::new(alloc);

@@ -37,8 +37,12 @@ impl FormIds {
         browse: Browse,
         id: u32,
     ) -> Result<(), AllocError>
-        ensures ok { OnOk result ((form : Form) → Puts (key_or_none form browse (option_copied row.entry)) id (texts_of self.old form) (texts_of self.new form)) }
-        ensures part { (form : Form) → PutsAtMost (key_or_none form browse (option_copied row.entry)) id (texts_of self.old form) (texts_of self.new form) }
+        ensures ok { OnOk result ((form : Form)
+            → Puts (key_or_none form browse (option_copied row.entry)) id (texts_of self.old form)
+            (texts_of self.new form)) }
+        ensures part { (form : Form)
+            → PutsAtMost (key_or_none form browse (option_copied row.entry)) id
+            (texts_of self.old form) (texts_of self.new form) }
         ensures text { IsTextAt browse (option_copied row.entry) }
     {
         let forms = Forms::of(row, browse);
@@ -48,7 +52,8 @@ impl FormIds {
 
     /// Takes the id away from under the forms that it is no longer found by. It does not allocate.
     pub(crate) fn settle(&mut self, kept: Option<&Row>, gone: Option<&Row>, browse: Browse, id: u32)
-        ensures { (form : Form) → Settles (key_or_none form browse (option_copied kept.entry)) (key_or_none form browse (option_copied gone.entry)) id
+        ensures { (form : Form) → Settles (key_or_none form browse (option_copied kept.entry))
+            (key_or_none form browse (option_copied gone.entry)) id
             (texts_of self.old form) (texts_of self.new form) }
     {
         let stays = Forms::of(kept, browse);

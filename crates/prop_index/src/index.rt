@@ -67,9 +67,11 @@ impl PropIndex {
 
     /// Takes in what became of an item. The old row is the one that the library has under the id, if it has one.
     pub fn apply(&mut self, old: Option<&Row>, new: Option<&Row>) -> Result<(), AllocError>
-        ensures ok { OnOk result ((rows : List (ℕ × Row)) → IsAscending rows → Fits rows (option_copied old.entry) (option_copied new.entry)
+        ensures ok { OnOk result ((rows : List (ℕ × Row)) → IsAscending rows
+            → Fits rows (option_copied old.entry) (option_copied new.entry)
             → StandsFor rows self.old → StandsFor (after rows (option_copied old.entry) (option_copied new.entry)) self.new) }
-        ensures err { OnErr result ((rows : List (ℕ × Row)) → IsAscending rows → Fits rows (option_copied old.entry) (option_copied new.entry)
+        ensures err { OnErr result ((rows : List (ℕ × Row)) → IsAscending rows
+            → Fits rows (option_copied old.entry) (option_copied new.entry)
             → StandsFor rows self.old → StandsFor rows self.new) }
     {
         let mut turns = BTreeMap::new(self.alloc);
@@ -79,9 +81,11 @@ impl PropIndex {
 
     /// Takes in changes in order, all of them or none. Each has the old row that the library has after those before it.
     pub fn apply_all(&mut self, changes: &[Change]) -> Result<(), AllocError>
-        ensures ok { OnOk result ((rows : List (ℕ × Row)) → IsAscending rows → FitInTurn rows changes.now
+        ensures ok { OnOk result ((rows : List (ℕ × Row)) → IsAscending rows
+            → FitInTurn rows changes.now
             → StandsFor rows self.old → StandsFor (after_all rows changes.now) self.new) }
-        ensures err { OnErr result ((rows : List (ℕ × Row)) → IsAscending rows → FitInTurn rows changes.now
+        ensures err { OnErr result ((rows : List (ℕ × Row)) → IsAscending rows
+            → FitInTurn rows changes.now
             → StandsFor rows self.old → StandsFor rows self.new) }
     {
         let turns = turns_of(self.alloc, changes)?;
@@ -90,14 +94,16 @@ impl PropIndex {
 
     /// The values by which the library is browsed, as they are spelled, each once, in the order of their bytes.
     pub fn values(&self, browse: Browse) -> Result<Texts, AllocError>
-        ensures { IfOk result (λ texts. (rows : List (ℕ × Row)) → IsAscending rows → StandsFor rows self.now → texts ≡ values_in browse rows) }
+        ensures { IfOk result (λ texts. (rows : List (ℕ × Row)) → IsAscending rows
+            → StandsFor rows self.now → texts ≡ values_in browse rows) }
     {
         self.ids_by(browse).spelled.texts(self.alloc)
     }
 
     /// The ids of the items with that value, as it is spelled, ascending.
     pub fn ids_of(&self, browse: Browse, value: &str) -> Result<Vec<u32>, AllocError>
-        ensures { IfOk result (λ ids. (rows : List (ℕ × Row)) → IsAscending rows → StandsFor rows self.now
+        ensures { IfOk result (λ ids. (rows : List (ℕ × Row)) → IsAscending rows
+            → StandsFor rows self.now
             → ids.items ≡ keys_of (filter (λ row. finds spelled browse value.now row.1) rows)) }
     {
         self.ids_by(browse).spelled.ids(self.alloc, value)
@@ -106,11 +112,13 @@ impl PropIndex {
     /// The ids of the items that may meet the query, ascending, where it asks for a text without a wildcard. Without such
     /// a text any item may.
     pub fn candidates(&self, query: &Query) -> Result<Option<Vec<u32>>, AllocError>
-        ensures found { IfOk result (λ found. (rows : List (ℕ × Row)) → IsAscending rows → StandsFor rows self.now
+        ensures found { IfOk result (λ found. (rows : List (ℕ × Row)) → IsAscending rows
+            → StandsFor rows self.now
             → option_map (λ ids. ids.items) found ≡ candidates_in (tree_of query.now) rows) }
         ensures ascending { IfOk result (λ found. IfSome found (λ ids. AreAscending ids.items)) }
         // No other item is asked for.
-        ensures others { IfOk result (λ found. IfSome found (λ ids. (es : List Edit) → StandsFor (library es) self.now
+        ensures others { IfOk result
+            (λ found. IfSome found (λ ids. (es : List Edit) → StandsFor (library es) self.now
             → (id : ℕ) → has id ids.items ≡ false → row_at es Items (Some query.now) id ≡ None)) }
     {
         let Some((browse, text)) = needed_text(query) else {
@@ -199,8 +207,12 @@ impl PropIndex {
 
     // Takes in the changes, one for each id. All that allocates comes first, and is taken back if it fails.
     fn take_in(&mut self, turns: &BTreeMap<u32, Turn>) -> Result<(), AllocError>
-        ensures ok { OnOk result ((rows later : List (ℕ × Row)) → TurnTo rows later turns.now.entries → StandsFor rows self.old → StandsFor later self.new) }
-        ensures err { OnErr result ((rows later : List (ℕ × Row)) → TurnTo rows later turns.now.entries → StandsFor rows self.old → StandsFor rows self.new) }
+        ensures ok { OnOk result ((rows later : List (ℕ × Row))
+            → TurnTo rows later turns.now.entries → StandsFor rows self.old
+            → StandsFor later self.new) }
+        ensures err { OnErr result ((rows later : List (ℕ × Row))
+            → TurnTo rows later turns.now.entries → StandsFor rows self.old
+            → StandsFor rows self.new) }
     {
         match self.put_all(turns) {
             Ok(()) => {

@@ -45,7 +45,8 @@ pub(crate) fn folded(alloc: Global, text: &str) -> Result<String, AllocError>
 }
 
 fn text_of(row: &Row, browse: Browse) -> Option<&str>
-    ensures value { value_of (browsed browse) row.now.item ≡ option_map PropValue.Text (option_copied result) }
+    ensures value { value_of (browsed browse) row.now.item
+        ≡ option_map PropValue.Text (option_copied result) }
     ensures short { IfSome result (λ text. length text.now ≤ text_limit) }
 {
     match row.item.get(browsed(browse)) {
@@ -83,7 +84,8 @@ impl<'a> Forms<'a> {
 
     /// The row's text of the property. It does not allocate.
     pub(crate) fn of(row: Option<&'a Row>, browse: Browse) -> Forms<'a>
-        ensures keys { (form : Form) → form_in result form ≡ key_or_none form browse (option_copied row.entry) }
+        ensures keys { (form : Form)
+            → form_in result form ≡ key_or_none form browse (option_copied row.entry) }
         ensures text { IsTextAt browse (option_copied row.entry) }
     {
         match row {

@@ -8,5 +8,6 @@ ghost use Rattle.song_query.specs.Printing.{printed};
 
 /// If a text in UTF-8 reads as a query, then the query is printed in UTF-8.
 pub fn printed_queries_are_utf8()
-    ensures { (text : List ℕ) (query : Query) → IsUtf8 text → Answers text (Ok query) → IsUtf8 (printed (tree_of query)) }
+    ensures { (text : List ℕ) (query : Query) → IsUtf8 text → Answers text (Ok query)
+        → IsUtf8 (printed (tree_of query)) }
 {}

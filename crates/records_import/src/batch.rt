@@ -21,7 +21,8 @@ pub const MOST_RECORDS: usize = 65_536;
 /// Returns the batch of comma separated records below a header. A text without rows is the empty batch. If a record
 /// is malformed, the whole batch is refused.
 pub fn read_batch(alloc: Global, bytes: &[u8]) -> Result<Batch, RecordError>
-    ensures exact { MatchResult result (λ batch. BatchReads (table_of bytes.now) (Ok batch)) (λ e. e ≢ RecordError.Memory → BatchReads (table_of bytes.now) (Err e)) }
+    ensures exact { MatchResult result (λ batch. BatchReads (table_of bytes.now) (Ok batch))
+        (λ e. e ≢ RecordError.Memory → BatchReads (table_of bytes.now) (Err e)) }
     ensures valid { IfOk result (λ batch. AreValid batch) }
     ensures few { IfOk result (λ batch. length batch ≤ most_records) }
 {
@@ -32,7 +33,8 @@ pub fn read_batch(alloc: Global, bytes: &[u8]) -> Result<Batch, RecordError>
 
 #[tactic(auto, unfolding(crate::specs::Records::BatchReads))]
 fn read_rows(alloc: Global, rows: &[ByteRecord]) -> Result<Batch, RecordError>
-    ensures { MatchResult result (λ batch. BatchReads (map fields_of rows.now) (Ok batch)) (λ e. e ≢ RecordError.Memory → BatchReads (map fields_of rows.now) (Err e)) }
+    ensures { MatchResult result (λ batch. BatchReads (map fields_of rows.now) (Ok batch))
+        (λ e. e ≢ RecordError.Memory → BatchReads (map fields_of rows.now) (Err e)) }
 {
     match rows {
         [] => Ok(Batch {
@@ -51,7 +53,10 @@ fn read_records(
     columns: &[Column],
     records: &[ByteRecord],
 ) -> Result<Edits, RecordError>
-    ensures { MatchResult result (λ edits. RecordsAnswer columns.now 1 (map fields_of records.now) (Ok edits)) (λ e. e ≢ RecordError.Memory → RecordsAnswer columns.now 1 (map fields_of records.now) (Err e)) }
+    ensures { MatchResult result
+        (λ edits. RecordsAnswer columns.now 1 (map fields_of records.now) (Ok edits))
+        (λ e. e ≢ RecordError.Memory
+        → RecordsAnswer columns.now 1 (map fields_of records.now) (Err e)) }
 {
     let mut edits = Edits::new(alloc);
     for (place, cells) in records.iter().enumerate() {

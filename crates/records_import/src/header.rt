@@ -75,7 +75,9 @@ impl Column {
 
 /// Parses the header, the first row.
 pub fn read_header(alloc: Global, cells: &ByteRecord) -> Result<Header, RecordError>
-    ensures { MatchResult result (λ header. header_of (fields_of cells.now) ≡ Ok header.columns.items) (λ e. e ≢ RecordError.Memory → header_of (fields_of cells.now) ≡ Err e) }
+    ensures { MatchResult result
+        (λ header. header_of (fields_of cells.now) ≡ Ok header.columns.items)
+        (λ e. e ≢ RecordError.Memory → header_of (fields_of cells.now) ≡ Err e) }
 {
     if cell(cells, 0) != b"op".as_slice() {
         return Err(RecordError::Header { column: 1 });
@@ -91,7 +93,9 @@ pub fn read_header(alloc: Global, cells: &ByteRecord) -> Result<Header, RecordEr
 }
 
 fn further_columns(alloc: Global, cells: &ByteRecord) -> Result<Vec<Column>, RecordError>
-    ensures { MatchResult result (λ columns. columns_of 4 [] (drop 3 (fields_of cells.now)) ≡ Ok columns.items) (λ e. e ≢ RecordError.Memory → columns_of 4 [] (drop 3 (fields_of cells.now)) ≡ Err e) }
+    ensures { MatchResult result
+        (λ columns. columns_of 4 [] (drop 3 (fields_of cells.now)) ≡ Ok columns.items)
+        (λ e. e ≢ RecordError.Memory → columns_of 4 [] (drop 3 (fields_of cells.now)) ≡ Err e) }
 {
     let mut columns = Vec::new(alloc);
     'names: for place in FIRST_COLUMNS..width(cells) {

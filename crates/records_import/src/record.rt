@@ -24,7 +24,10 @@ pub fn read_record(
     columns: &[Column],
     cells: &ByteRecord,
 ) -> Result<Edit, RecordError>
-    ensures { MatchResult result (λ edit. RecordAnswers columns.now row (fields_of cells.now) (Ok edit)) (λ e. e ≢ RecordError.Memory → RecordAnswers columns.now row (fields_of cells.now) (Err e)) }
+    ensures { MatchResult result
+        (λ edit. RecordAnswers columns.now row (fields_of cells.now) (Ok edit))
+        (λ e. e ≢ RecordError.Memory
+        → RecordAnswers columns.now row (fields_of cells.now) (Err e)) }
 {
     if row > MOST_RECORDS as u64 {
         return Err(RecordError::TooMany { row });
@@ -52,7 +55,8 @@ fn field(row: u64, column: u64, why: RecordWhy) -> RecordError
 
 /// Returns the action of a record, by its first two cells.
 fn read_action(row: u64, cells: &ByteRecord) -> Result<Action, RecordError>
-    ensures { result ≡ action_of row (get_or (fields_of cells.now) 0 []) (get_or (fields_of cells.now) 1 []) }
+    ensures { result ≡ action_of row (get_or (fields_of cells.now) 0 [])
+        (get_or (fields_of cells.now) 1 []) }
 {
     let kind = cell(cells, 1);
     let action = if cell(cells, 0) == b"put".as_slice() {
@@ -77,7 +81,10 @@ fn read_cells(
     cells: &ByteRecord,
 ) -> Result<Values, RecordError>
     requires { length (fields_of cells.now) ≡ length columns.now + 3 }
-    ensures { MatchResult result (λ values. Walked action columns.now (drop 3 (fields_of cells.now)) no_values values) (λ e. e ≢ RecordError.Memory → IsLeftmost action row 4 columns.now (drop 3 (fields_of cells.now)) e) }
+    ensures { MatchResult result
+        (λ values. Walked action columns.now (drop 3 (fields_of cells.now)) no_values values)
+        (λ e. e ≢ RecordError.Memory
+        → IsLeftmost action row 4 columns.now (drop 3 (fields_of cells.now)) e) }
 {
     let mut values = Values::new(alloc);
     for (place, column) in columns.iter().enumerate() {
@@ -117,7 +124,8 @@ fn edit_from(
 }
 
 fn put_item(alloc: Global, id: u32, item: Item) -> Result<Option<Edit>, AllocError>
-    ensures { IfOk result (λ edit. edit ≡ Some (an_edit.PutItem (record { id = id; item = item }))) }
+    ensures { IfOk result (λ edit. edit
+        ≡ Some (an_edit.PutItem (record { id = id; item = item }))) }
 {
     let row = SharedRow::new(alloc, Row { id, item })?;
     Ok(Some(Edit::PutItem { row }))

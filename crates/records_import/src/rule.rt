@@ -9,7 +9,8 @@ use std::alloc::Global;
 
 /// Returns the query of a rule's text.
 pub fn read_rule(alloc: Global, text: &str) -> Result<Query, QueryError>
-    ensures { MatchResult result (λ rule. RuleReads text.now (Ok rule)) (λ e. e ≢ QueryError.Memory → RuleReads text.now (Err e)) }
+    ensures { MatchResult result (λ rule. RuleReads text.now (Ok rule)) (λ e. e ≢ QueryError.Memory
+        → RuleReads text.now (Err e)) }
 {
     read(alloc, text)
 }

@@ -31,7 +31,8 @@ pub fn write_row(writer: &mut Writer<Vec<u8>>, row: &ByteRecord) -> Result<(), A
 
 /// Returns the text of all rows written.
 pub fn written_text(writer: Writer<Vec<u8>>) -> Result<Vec<u8>, AllocError>
-    ensures { (text : List ℕ) → HasWritten (λ v. Some v.items) writer text → IfOk result (λ v. v.items ≡ text) }
+    ensures { (text : List ℕ) → HasWritten (λ v. Some v.items) writer text
+        → IfOk result (λ v. v.items ≡ text) }
 {
     match writer.into_inner() {
         Ok(text) => Ok(text),
@@ -42,7 +43,8 @@ pub fn written_text(writer: Writer<Vec<u8>>) -> Result<Vec<u8>, AllocError>
 /// Returns the text of these rows in the default form of `csv`, one line for each.
 pub fn write_rows(alloc: Global, rows: &[ByteRecord]) -> Result<Vec<u8>, AllocError>
     ensures text { IfOk result (λ v. v.items ≡ table_text (map fields_of rows.now)) }
-    ensures reads_back { IfOk result (λ v. All HasCell (map fields_of rows.now) → IsUnmarked v.items → table_of v.items ≡ map fields_of rows.now) }
+    ensures reads_back { IfOk result (λ v. All HasCell (map fields_of rows.now) → IsUnmarked v.items
+        → table_of v.items ≡ map fields_of rows.now) }
 {
     let mut writer = table_writer(alloc);
     for row in rows {

@@ -131,7 +131,9 @@ fn put_property(
     property: Property,
     cell: &[u8],
 ) -> Result<(), CellError>
-    ensures { MatchResult result (λ _. (property_flaw property cell.now ≡ None) × (item.new ≡ with_cell (Column.Property property) cell.now item.old)) (λ e. ForCause e (λ why. property_flaw property cell.now ≡ Some why)) }
+    ensures { MatchResult result (λ _. (property_flaw property cell.now ≡ None)
+        × (item.new ≡ with_cell (Column.Property property) cell.now item.old))
+        (λ e. ForCause e (λ why. property_flaw property cell.now ≡ Some why)) }
 {
     if cell.is_empty() {
         return Ok(());
@@ -146,7 +148,8 @@ fn put_property(
 
 /// Returns the value of a property in a cell that is not empty.
 fn property_value(alloc: Global, property: Property, cell: &[u8]) -> Result<PropValue, CellError>
-    ensures { MatchResult result (λ value. property_in property cell.now ≡ Ok value) (λ e. ForCause e (λ why. property_in property cell.now ≡ Err why)) }
+    ensures { MatchResult result (λ value. property_in property cell.now ≡ Ok value)
+        (λ e. ForCause e (λ why. property_in property cell.now ≡ Err why)) }
 {
     match property.kind() {
         Kind::Text => text_value(alloc, cell),
@@ -155,7 +158,8 @@ fn property_value(alloc: Global, property: Property, cell: &[u8]) -> Result<Prop
 }
 
 fn text_value(alloc: Global, cell: &[u8]) -> Result<PropValue, CellError>
-    ensures { MatchResult result (λ value. text_in cell.now ≡ Ok value) (λ e. ForCause e (λ why. text_in cell.now ≡ Err why)) }
+    ensures { MatchResult result (λ value. text_in cell.now ≡ Ok value)
+        (λ e. ForCause e (λ why. text_in cell.now ≡ Err why)) }
 {
     let Some(text) = text_of(cell) else {
         return Err(CellError::Refused(RecordWhy::Text));
@@ -184,7 +188,8 @@ fn number_value(property: Property, cell: &[u8]) -> Result<PropValue, RecordWhy>
 
 /// Returns the bytes as a text, if they are UTF-8.
 fn text_of(bytes: &[u8]) -> Option<&str>
-    ensures { option_map (λ text. text.now) result ≡ (if is_utf8 bytes.now then Some bytes.now else None) }
+    ensures { option_map (λ text. text.now) result
+        ≡ (if is_utf8 bytes.now then Some bytes.now else None) }
 {
     match from_utf8(bytes) {
         Ok(text) => Some(text),
@@ -193,7 +198,8 @@ fn text_of(bytes: &[u8]) -> Option<&str>
 }
 
 fn rule_value(alloc: Global, cell: &[u8]) -> Result<Query, CellError>
-    ensures { MatchResult result (λ rule. RuleFlaw cell.now None × RuleReads cell.now (Ok rule)) (λ e. ForCause e (λ why. RuleFlaw cell.now (Some why))) }
+    ensures { MatchResult result (λ rule. RuleFlaw cell.now None × RuleReads cell.now (Ok rule))
+        (λ e. ForCause e (λ why. RuleFlaw cell.now (Some why))) }
 {
     if cell.is_empty() {
         return Err(CellError::Refused(RecordWhy::Missing));

@@ -37,8 +37,11 @@ pub fn write_batch(alloc: Global, batch: &Batch) -> Result<Bytes, AllocError>
 /// Writes the header and a record for each edit. After an error the writer must not be used again.
 fn write_edits(alloc: Global, writer: &mut Writer<Vec<u8>>, batch: &Batch) -> Result<(), AllocError>
     requires { IsReadable batch.now }
-    ensures written { HasWritten (λ v. Some v.items) writer.old [] → OnOk result (HasWritten (λ v. Some v.items) writer.new (table_text (written_rows batch.now))) }
-    ensures reads_back { OnOk result (BatchReads (table_of (table_text (written_rows batch.now))) (Ok batch.now)) }
+    ensures written { HasWritten (λ v. Some v.items) writer.old []
+        → OnOk result (HasWritten (λ v. Some v.items) writer.new
+        (table_text (written_rows batch.now))) }
+    ensures reads_back { OnOk result
+        (BatchReads (table_of (table_text (written_rows batch.now))) (Ok batch.now)) }
 {
     let columns = written_columns(alloc)?;
     write_header(alloc, writer, columns.as_slice())?;
@@ -98,7 +101,8 @@ fn property_columns(alloc: Global, properties: &[Property]) -> Result<Vec<Column
 }
 
 fn header_row(alloc: Global, columns: &[Column]) -> Result<ByteRecord, AllocError>
-    ensures { IfOk result (λ row. fields_of row ≡ codes "op" ∷ codes "kind" ∷ codes "id" ∷ map column_name columns.now) }
+    ensures { IfOk result (λ row. fields_of row
+        ≡ codes "op" ∷ codes "kind" ∷ codes "id" ∷ map column_name columns.now) }
 {
     let mut row = first_cells(alloc, "op", "kind", "id")?;
     for column in columns {
@@ -110,7 +114,9 @@ fn header_row(alloc: Global, columns: &[Column]) -> Result<ByteRecord, AllocErro
 /// Returns the record of an edit.
 fn edit_row(alloc: Global, columns: &[Column], edit: &Edit) -> Result<ByteRecord, AllocError>
     requires { IsValid edit.now }
-    ensures cells { IfOk result (λ row. fields_of row ≡ written_op edit.now ∷ written_kind edit.now ∷ decimal (written_id edit.now) ∷ map (written_cell edit.now) columns.now) }
+    ensures cells { IfOk result (λ row. fields_of row
+        ≡ written_op edit.now ∷ written_kind edit.now ∷ decimal (written_id edit.now) ∷ map
+        (written_cell edit.now) columns.now) }
     ensures utf8 { OnOk result (AllText (map (written_cell edit.now) columns.now)) }
 {
     let mut row = edit_cells(alloc, edit)?;
@@ -122,7 +128,8 @@ fn edit_row(alloc: Global, columns: &[Column], edit: &Edit) -> Result<ByteRecord
 
 /// Returns the first three cells of an edit's record.
 fn edit_cells(alloc: Global, edit: &Edit) -> Result<ByteRecord, AllocError>
-    ensures { IfOk result (λ row. HasCells row (written_op edit.now ∷ written_kind edit.now ∷ decimal (written_id edit.now) ∷ [])) }
+    ensures { IfOk result (λ row. HasCells row
+        (written_op edit.now ∷ written_kind edit.now ∷ decimal (written_id edit.now) ∷ [])) }
 {
     let id = id_of(edit).to_string(alloc)?;
     first_cells(alloc, op_of(edit), kind_of(edit), id.as_str())
@@ -136,7 +143,8 @@ fn push_cell_of(
     column: Column,
 ) -> Result<(), AllocError>
     requires { IsValid edit.now }
-    ensures cells { (cells : Cells) → HasCells row.old cells → OnOk result (HasCells row.new (cells ++ written_cell edit.now column ∷ [])) }
+    ensures cells { (cells : Cells) → HasCells row.old cells
+        → OnOk result (HasCells row.new (cells ++ written_cell edit.now column ∷ [])) }
     ensures utf8 { OnOk result (IsUtf8 (written_cell edit.now column)) }
 {
     let cell = cell_of(alloc, edit, column)?;
@@ -154,7 +162,8 @@ fn first_cells(alloc: Global, op: &str, kind: &str, id: &str) -> Result<ByteReco
 }
 
 fn push_cell(row: &mut ByteRecord, cell: &str) -> Result<(), AllocError>
-    ensures { (cells : Cells) → HasCells row.old cells → OnOk result (HasCells row.new (cells ++ cell.now ∷ [])) }
+    ensures { (cells : Cells) → HasCells row.old cells
+        → OnOk result (HasCells row.new (cells ++ cell.now ∷ [])) }
 {
     row.push_field(cell.as_bytes())
 }
@@ -246,7 +255,9 @@ fn name_cell(alloc: Global, name: &str, column: Column) -> Result<String, AllocE
 /// Returns a smart playlist's cell in a column: its name, its rule, or an empty cell.
 fn rule_cell(alloc: Global, name: &str, rule: &Query, column: Column) -> Result<String, AllocError>
     requires { IsProper rule.now }
-    ensures { IfOk result (λ cell. string_bytes cell ≡ (if is_name column then name.now else if is_rule column then printed (tree_of rule.now) else [])) }
+    ensures { IfOk result (λ cell. string_bytes cell
+        ≡ (if is_name column then name.now else if is_rule column then printed (tree_of rule.now)
+        else [])) }
 {
     if column.is_same(Column::Property(Property::Minm)) {
         return String::from_str(alloc, name);
@@ -260,7 +271,8 @@ fn rule_cell(alloc: Global, name: &str, rule: &Query, column: Column) -> Result<
 
 /// Returns the cell of a member that is put: its list, its item, or an empty cell.
 fn member_cell(alloc: Global, list: u32, item: u32, column: Column) -> Result<String, AllocError>
-    ensures { IfOk result (λ cell. string_bytes cell ≡ (if is_list column then decimal list else if is_item column then decimal item else [])) }
+    ensures { IfOk result (λ cell. string_bytes cell
+        ≡ (if is_list column then decimal list else if is_item column then decimal item else [])) }
 {
     if column.is_same(Column::List) {
         return list.to_string(alloc);
@@ -273,7 +285,8 @@ fn member_cell(alloc: Global, list: u32, item: u32, column: Column) -> Result<St
 
 /// Returns the cell of a member that is dropped: its list, or an empty cell.
 fn list_cell(alloc: Global, list: u32, column: Column) -> Result<String, AllocError>
-    ensures { IfOk result (λ cell. string_bytes cell ≡ (if is_list column then decimal list else [])) }
+    ensures { IfOk result (λ cell. string_bytes cell
+        ≡ (if is_list column then decimal list else [])) }
 {
     if column.is_same(Column::List) {
         return list.to_string(alloc);

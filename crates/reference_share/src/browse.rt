@@ -35,7 +35,9 @@ fn is_filled(text: &str) -> bool
 
 // Inserts the text unless it is empty.
 fn put_text<'a>(texts: &mut BTreeSet<&'a str>, text: &'a str) -> Result<(), AllocError>
-    ensures { OnOk result (map text_at texts.new.keys ≡ fold (insert_key (slice_cmp nat_cmp)) (map text_at texts.old.keys) (filter is_filled (text.now ∷ []))) }
+    ensures { OnOk result (map text_at texts.new.keys
+        ≡ fold (insert_key (slice_cmp nat_cmp)) (map text_at texts.old.keys)
+        (filter is_filled (text.now ∷ []))) }
 {
     if is_filled(text) {
         texts.insert(text)?;
@@ -51,7 +53,8 @@ pub fn browse_values<'a>(
     browse: Browse,
     query: Option<&Query>,
 ) -> Result<BTreeSet<&'a str>, AllocError>
-    ensures { IfOk result (λ texts. map text_at texts.keys ≡ browse_values (all_edits history.now) browse (option_copied query.entry)) }
+    ensures { IfOk result (λ texts. map text_at texts.keys
+        ≡ browse_values (all_edits history.now) browse (option_copied query.entry)) }
 {
     let found = rows(alloc, history, Target::Items, query)?;
     let mut texts = BTreeSet::new(alloc);
@@ -89,7 +92,8 @@ pub fn browse_body(
 ) -> Result<Tag, AllocError>
     requires revision { revision (batches history.now) < 2 ^ 32 }
     requires edits { length (all_edits history.now) < 2 ^ 32 }
-    ensures { IfOk result (λ tag. tag ≡ browse_body history.now browse (option_copied query.entry)) }
+    ensures { IfOk result (λ tag. tag
+        ≡ browse_body history.now browse (option_copied query.entry)) }
 {
     let texts = browse_values(alloc, history, browse, query)?;
     let entries = value_tags(alloc, &texts)?;

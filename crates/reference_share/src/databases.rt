@@ -60,7 +60,9 @@ fn push_list<'a>(
     id: u32,
     list: Option<PlaylistRef<'a>>,
 ) -> Result<(), AllocError>
-    ensures { OnOk result (map listed_of found.new.items ≡ map listed_of found.old.items ++ option_to_list (option_map (λ one. (id, one)) (option_map playlist_of list.entry))) }
+    ensures { OnOk result (map listed_of found.new.items
+        ≡ map listed_of found.old.items ++ option_to_list
+        (option_map (λ one. (id, one)) (option_map playlist_of list.entry))) }
 {
     if let Some(one) = list {
         found.push((id, one))?;
@@ -90,7 +92,8 @@ pub(crate) fn playlists_with<'a>(
     history: &'a [Entry],
     edits: &'a [Edit],
 ) -> Result<Vec<(u32, PlaylistRef<'a>)>, AllocError>
-    ensures { IfOk result (λ found. map listed_of found.items ≡ lists (all_edits history.now ++ edits.now)) }
+    ensures { IfOk result (λ found. map listed_of found.items
+        ≡ lists (all_edits history.now ++ edits.now)) }
 {
     let mut found = Vec::new(alloc);
     for id in &lists_with(alloc, history, edits)? {
@@ -101,7 +104,9 @@ pub(crate) fn playlists_with<'a>(
 
 // Returns the only database, with the numbers of its items and containers.
 fn database_tag(alloc: Global, name: &Text, items: u32, containers: u32) -> Result<Tag, AllocError>
-    ensures { IfOk result (λ tag. tag ≡ entry_tag (leaf (code "miid") (U32 1) ∷ leaf (code "minm") (tree.Text name.now) ∷ leaf (code "mimc") (U32 items) ∷ leaf (code "mctc") (U32 containers) ∷ [])) }
+    ensures { IfOk result (λ tag. tag
+        ≡ entry_tag (leaf (code "miid") (U32 1) ∷ leaf (code "minm") (tree.Text name.now) ∷ leaf
+        (code "mimc") (U32 items) ∷ leaf (code "mctc") (U32 containers) ∷ [])) }
 {
     let mut tags = Tags::new(alloc);
     tags.push(number_tag(Code(*b"miid"), 1))?;
@@ -128,7 +133,9 @@ fn container_tag(
     mark: Option<Tag>,
     count: u32,
 ) -> Result<Tag, AllocError>
-    ensures { IfOk result (λ tag. tag ≡ entry_tag (leaf (code "miid") (U32 id) ∷ leaf (code "minm") (tree.Text name.now) ∷ (option_to_list mark ++ leaf (code "mimc") (U32 count) ∷ []))) }
+    ensures { IfOk result (λ tag. tag
+        ≡ entry_tag (leaf (code "miid") (U32 id) ∷ leaf (code "minm") (tree.Text name.now)
+        ∷ (option_to_list mark ++ leaf (code "mimc") (U32 count) ∷ []))) }
 {
     let mut tags = Tags::new(alloc);
     tags.push(number_tag(Code(*b"miid"), id))?;

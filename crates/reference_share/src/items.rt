@@ -30,7 +30,8 @@ fn item_after<'a>(found: Option<&'a Row>, edit: &'a Edit, id: u32) -> Option<&'a
 
 // Returns what the last of `edits` that names item `id` says, or `found`.
 fn item_in<'a>(mut found: Option<&'a Row>, edits: &'a [Edit], id: u32) -> Option<&'a Row>
-    ensures { option_copied result ≡ unwrap_or (last_said (says_item id) edits.now) (option_copied found.entry) }
+    ensures { option_copied result
+        ≡ unwrap_or (last_said (says_item id) edits.now) (option_copied found.entry) }
 {
     for edit in edits {
         found = item_after(found, edit, id);

@@ -51,7 +51,8 @@ fn is_touched_in(
     later: &[Entry],
     key: u32,
 ) -> bool
-    ensures { result ≡ touches_in (option_map playlist_of found.entry) (all_edits history.now) id (all_edits later.now) key }
+    ensures { result ≡ touches_in (option_map playlist_of found.entry) (all_edits history.now) id
+        (all_edits later.now) key }
 {
     match found {
         None => false,
@@ -82,7 +83,8 @@ pub fn is_touched(history: &[Entry], target: Target, later: &[Entry], key: u32) 
 
 // Pushes the key if it is wanted.
 pub(crate) fn push_if(keys: &mut Vec<u32>, key: u32, is_wanted: bool) -> Result<(), AllocError>
-    ensures { OnOk result (keys.new.items ≡ keys.old.items ++ (if is_wanted then key ∷ [] else [])) }
+    ensures { OnOk result (keys.new.items
+        ≡ keys.old.items ++ (if is_wanted then key ∷ [] else [])) }
 {
     if is_wanted {
         keys.push(key)?;

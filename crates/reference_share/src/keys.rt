@@ -25,7 +25,8 @@ fn key_of(edit: &Edit) -> Option<u32>
 }
 
 fn put(keys: &mut BTreeSet<u32>, key: Option<u32>) -> Result<(), AllocError>
-    ensures { OnOk result (keys.new.keys ≡ fold (insert_key nat_cmp) keys.old.keys (option_to_list key)) }
+    ensures { OnOk result (keys.new.keys
+        ≡ fold (insert_key nat_cmp) keys.old.keys (option_to_list key)) }
 {
     if let Some(key) = key {
         keys.insert(key)?;
@@ -35,7 +36,8 @@ fn put(keys: &mut BTreeSet<u32>, key: Option<u32>) -> Result<(), AllocError>
 
 #[tactic(auto, using(share_history::proofs::FoldFacts::folded_left))]
 fn put_keys(keys: &mut BTreeSet<u32>, edits: &[Edit]) -> Result<(), AllocError>
-    ensures { OnOk result (keys.new.keys ≡ fold (insert_key nat_cmp) keys.old.keys (named_keys edits.now)) }
+    ensures { OnOk result (keys.new.keys
+        ≡ fold (insert_key nat_cmp) keys.old.keys (named_keys edits.now)) }
 {
     for edit in edits {
         put(keys, key_of(edit))?;
@@ -45,7 +47,8 @@ fn put_keys(keys: &mut BTreeSet<u32>, edits: &[Edit]) -> Result<(), AllocError>
 
 #[tactic(auto, using(share_history::proofs::FoldFacts::folded_left))]
 fn put_lists(keys: &mut BTreeSet<u32>, edits: &[Edit]) -> Result<(), AllocError>
-    ensures { OnOk result (keys.new.keys ≡ fold (insert_key nat_cmp) keys.old.keys (named_lists edits.now)) }
+    ensures { OnOk result (keys.new.keys
+        ≡ fold (insert_key nat_cmp) keys.old.keys (named_lists edits.now)) }
 {
     for edit in edits {
         put(keys, list_of(edit))?;
@@ -84,7 +87,8 @@ pub(crate) fn lists_with(
     history: &[Entry],
     edits: &[Edit],
 ) -> Result<BTreeSet<u32>, AllocError>
-    ensures { IfOk result (λ keys. keys.keys ≡ ascending (named_lists (all_edits history.now ++ edits.now))) }
+    ensures { IfOk result (λ keys. keys.keys
+        ≡ ascending (named_lists (all_edits history.now ++ edits.now))) }
 {
     let mut keys = lists(alloc, history)?;
     put_lists(&mut keys, edits)?;

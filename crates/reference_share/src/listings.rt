@@ -77,7 +77,8 @@ fn full_of(
     all: &[(u32, &Row)],
 ) -> Result<Listing, AllocError>
     requires { length all.now < 2 ^ 32 }
-    ensures { IfOk result (λ l. listing_of l ≡ full_of revision target look.now (map row_of all.now)) }
+    ensures { IfOk result (λ l. listing_of l
+        ≡ full_of revision target look.now (map row_of all.now)) }
 {
     let rows = shown_rows(alloc, target, &look.meta, in_range(look.range, all))?;
     Ok(Listing {
@@ -109,7 +110,8 @@ fn push_row_if<'a>(
     row: (u32, &'a Row),
     is_wanted: bool,
 ) -> Result<(), AllocError>
-    ensures rows { OnOk result (map row_of rows.new.items ≡ map row_of rows.old.items ++ (if is_wanted then row_of row.entry ∷ [] else [])) }
+    ensures rows { OnOk result (map row_of rows.new.items
+        ≡ map row_of rows.old.items ++ (if is_wanted then row_of row.entry ∷ [] else [])) }
     ensures few { OnOk result (length rows.new.items ≤ length rows.old.items + 1) }
 {
     if is_wanted {
@@ -126,7 +128,10 @@ fn is_new(
     meta: &Meta,
     found: (u32, &Row),
 ) -> bool
-    ensures { result ≡ not (has_tag (shown_rows target meta.now (rows (all_edits earlier.now) target (option_copied query.entry))) (shown target meta.now (row_of found.entry))) }
+    ensures { result ≡ not (has_tag
+        (shown_rows target meta.now
+        (rows (all_edits earlier.now) target (option_copied query.entry)))
+        (shown target meta.now (row_of found.entry))) }
 {
     let (key, now) = found;
     let Some(old) = row(earlier, target, query, key) else {
@@ -144,7 +149,11 @@ fn new_rows<'a>(
     meta: &Meta,
     current: &[(u32, &'a Row)],
 ) -> Result<Vec<(u32, &'a Row)>, AllocError>
-    ensures rows { IfOk result (λ found. map row_of found.items ≡ filter (λ row. not (has_tag (shown_rows target meta.now (rows (all_edits earlier.now) target (option_copied query.entry))) (shown target meta.now row))) (map row_of current.now)) }
+    ensures rows { IfOk result (λ found. map row_of found.items
+        ≡ filter (λ row. not (has_tag
+        (shown_rows target meta.now
+        (rows (all_edits earlier.now) target (option_copied query.entry)))
+        (shown target meta.now row))) (map row_of current.now)) }
     ensures few { IfOk result (λ found. length found.items ≤ length current.now) }
 {
     let mut found = Vec::new(alloc);
@@ -163,7 +172,10 @@ fn gone_keys(
     query: Option<&Query>,
     earlier: &[(u32, &Row)],
 ) -> Result<Vec<u32>, AllocError>
-    ensures { IfOk result (λ gone. gone.items ≡ filter (λ key. is_none (row_at (all_edits history.now) target (option_copied query.entry) key)) (keys_of (map row_of earlier.now))) }
+    ensures { IfOk result (λ gone. gone.items
+        ≡ filter (λ key. is_none
+        (row_at (all_edits history.now) target (option_copied query.entry) key))
+        (keys_of (map row_of earlier.now))) }
 {
     let mut gone = Vec::new(alloc);
     for old in earlier {
@@ -182,7 +194,8 @@ fn delta_with(
     gone: Vec<u32>,
 ) -> Result<Listing, AllocError>
     requires { length listed.now < 2 ^ 32 }
-    ensures { IfOk result (λ l. listing_of l ≡ delta_with revision (shown_rows target meta.now (map row_of listed.now)) gone.items) }
+    ensures { IfOk result (λ l. listing_of l
+        ≡ delta_with revision (shown_rows target meta.now (map row_of listed.now)) gone.items) }
 {
     let rows = shown_rows(alloc, target, meta, listed)?;
     Ok(Listing {
@@ -204,7 +217,8 @@ pub fn delta_listing(
 ) -> Result<Listing, AllocError>
     requires revision { revision (batches history.now) < 2 ^ 32 }
     requires edits { length (all_edits history.now) < 2 ^ 32 }
-    ensures { IfOk result (λ l. listing_of l ≡ delta_listing (batches history.now) target look.now base) }
+    ensures { IfOk result (λ l. listing_of l
+        ≡ delta_listing (batches history.now) target look.now base) }
 {
     let query = look.query.as_ref();
     let earlier = at_revision(history, base);

@@ -22,7 +22,8 @@ fn list_after<'a>(
     edit: &'a Edit,
     id: u32,
 ) -> Option<PlaylistRef<'a>>
-    ensures { option_map playlist_of result ≡ unwrap_or (says_list id edit.now) (option_map playlist_of found.entry) }
+    ensures { option_map playlist_of result
+        ≡ unwrap_or (says_list id edit.now) (option_map playlist_of found.entry) }
 {
     match edit {
         Edit::PutList { list, name } => {
@@ -53,7 +54,8 @@ fn list_in<'a>(
     edits: &'a [Edit],
     id: u32,
 ) -> Option<PlaylistRef<'a>>
-    ensures { option_map playlist_of result ≡ unwrap_or (last_said (says_list id) edits.now) (option_map playlist_of found.entry) }
+    ensures { option_map playlist_of result
+        ≡ unwrap_or (last_said (says_list id) edits.now) (option_map playlist_of found.entry) }
 {
     for edit in edits {
         found = list_after(found, edit, id);

@@ -46,7 +46,8 @@ pub fn is_selected(query: Option<&Query>, row: &Row) -> bool
 
 // Returns the row if it exists and matches.
 fn if_selected<'a>(query: Option<&Query>, found: Option<&'a Row>) -> Option<&'a Row>
-    ensures { option_copied result ≡ option_and_then (if_selected (option_copied query.entry)) (option_copied found.entry) }
+    ensures { option_copied result
+        ≡ option_and_then (if_selected (option_copied query.entry)) (option_copied found.entry) }
 {
     let row = found?;
     if is_selected(query, row) {
@@ -62,7 +63,8 @@ fn in_list<'a>(
     id: u32,
     key: u32,
 ) -> Option<&'a Row>
-    ensures { option_copied result ≡ in_list (option_map playlist_of found.entry) (all_edits history.now) id key }
+    ensures { option_copied result
+        ≡ in_list (option_map playlist_of found.entry) (all_edits history.now) id key }
 {
     match found {
         None => None,
@@ -100,7 +102,8 @@ pub fn row<'a>(
     query: Option<&Query>,
     key: u32,
 ) -> Option<&'a Row>
-    ensures { option_copied result ≡ row_at (all_edits history.now) target (option_copied query.entry) key }
+    ensures { option_copied result
+        ≡ row_at (all_edits history.now) target (option_copied query.entry) key }
 {
     if_selected(query, in_target(history, target, key))
 }
@@ -110,7 +113,9 @@ fn push_found<'a>(
     key: u32,
     found: Option<&'a Row>,
 ) -> Result<(), AllocError>
-    ensures { OnOk result (map row_of rows.new.items ≡ map row_of rows.old.items ++ option_to_list (option_map (λ row. (key, row)) (option_copied found.entry))) }
+    ensures { OnOk result (map row_of rows.new.items
+        ≡ map row_of rows.old.items ++ option_to_list
+        (option_map (λ row. (key, row)) (option_copied found.entry))) }
 {
     if let Some(row) = found {
         rows.push((key, row))?;
@@ -125,7 +130,8 @@ fn found_rows<'a>(
     target: Target,
     query: Option<&Query>,
 ) -> Result<Vec<(u32, &'a Row)>, AllocError>
-    ensures { IfOk result (λ found. map row_of found.items ≡ rows (all_edits history.now) target (option_copied query.entry)) }
+    ensures { IfOk result (λ found. map row_of found.items
+        ≡ rows (all_edits history.now) target (option_copied query.entry)) }
 {
     let mut rows = Vec::new(alloc);
     for key in &keys(alloc, history)? {
@@ -142,7 +148,8 @@ pub fn rows<'a>(
     target: Target,
     query: Option<&Query>,
 ) -> Result<Vec<(u32, &'a Row)>, AllocError>
-    ensures rows { IfOk result (λ found. map row_of found.items ≡ rows (all_edits history.now) target (option_copied query.entry)) }
+    ensures rows { IfOk result (λ found. map row_of found.items
+        ≡ rows (all_edits history.now) target (option_copied query.entry)) }
     ensures few { IfOk result (λ found. length found.items ≤ length (all_edits history.now)) }
 {
     let rows = found_rows(alloc, history, target, query)?;

@@ -31,9 +31,11 @@ pub(crate) fn update_mirror(
 ) -> Result<bool, AllocError>
     requires table { table.now ≡ standard_rows }
     requires asks { (bs : List (List Edit)) × IsShare bs store.now × MayAsk bs mirror.old }
-    ensures delta { IfOk result (λ is_delta. (bs : List (List Edit)) → IsShare bs store.now → MayAsk bs mirror.old
+    ensures delta { IfOk result (λ is_delta. (bs : List (List Edit)) → IsShare bs store.now
+        → MayAsk bs mirror.old
         → is_delta ≡ is_kept store.now.keep bs Items mirror.old.held.revision) }
-    ensures held { IfOk result (λ _. (bs : List (List Edit)) → IsShare bs store.now → MayAsk bs mirror.old
+    ensures held { IfOk result (λ _. (bs : List (List Edit)) → IsShare bs store.now
+        → MayAsk bs mirror.old
         → mirror.new ≡ record {
           target = mirror.old.target;
           query = mirror.old.query;
@@ -57,7 +59,8 @@ fn body_for(
     requires share { (bs : List (List Edit)) × IsShare bs store.now }
     requires meta { look.meta ≡ Default }
     requires whole { look.range ≡ All }
-    ensures { IfOk result (λ body. (bs : List (List Edit)) → IsShare bs store.now → body ≡ body_tree Items (listing store.now.keep bs Items look)) }
+    ensures { IfOk result (λ body. (bs : List (List Edit)) → IsShare bs store.now
+        → body ≡ body_tree Items (listing store.now.keep bs Items look)) }
 {
     let plan = items_listing(alloc, store, look)?;
     carry_plan(alloc, table, &plan)
@@ -65,9 +68,12 @@ fn body_for(
 
 // Applies a body that is a listing and not an older one. Returns whether it was a delta.
 fn take(mirror: &mut Mirror, body: &Tag) -> Result<bool, AllocError>
-    requires { (l : Listing) × IsListing mirror.old.target mirror.old.held.revision l body.now × (mirror.old.held.revision ≤ l.revision) }
-    ensures delta { IfOk result (λ is_delta. (l : Listing) → IsListing mirror.old.target mirror.old.held.revision l body.now → is_delta ≡ l.is_delta) }
-    ensures held { IfOk result (λ _. (l : Listing) → IsListing mirror.old.target mirror.old.held.revision l body.now
+    requires { (l : Listing) × IsListing mirror.old.target mirror.old.held.revision l body.now
+        × (mirror.old.held.revision ≤ l.revision) }
+    ensures delta { IfOk result (λ is_delta. (l : Listing)
+        → IsListing mirror.old.target mirror.old.held.revision l body.now → is_delta ≡ l.is_delta) }
+    ensures held { IfOk result (λ _. (l : Listing)
+        → IsListing mirror.old.target mirror.old.held.revision l body.now
         → mirror.new ≡ record { target = mirror.old.target; query = mirror.old.query; meta = mirror.old.meta; held = mirror_after mirror.old.held l }) }
 {
     match mirror.apply(body) {

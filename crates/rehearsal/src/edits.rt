@@ -16,8 +16,10 @@ use std::alloc::{AllocError, Global};
 
 /// Returns the next batch of `size` edits.
 pub(crate) fn batch(alloc: Global, draws: &mut Draws, size: u32) -> Result<Batch, AllocError>
-    ensures edits { IfOk result (λ batch. (number place : ℕ) → draws.old.state ≡ state number (3 * place) → batch ≡ edits_from number place size) }
-    ensures draws { OnOk result ((number place : ℕ) → draws.old.state ≡ state number (3 * place) → draws.new.state ≡ state number (3 * (place + size))) }
+    ensures edits { IfOk result (λ batch. (number place : ℕ)
+        → draws.old.state ≡ state number (3 * place) → batch ≡ edits_from number place size) }
+    ensures draws { OnOk result ((number place : ℕ) → draws.old.state ≡ state number (3 * place)
+        → draws.new.state ≡ state number (3 * (place + size))) }
 {
     let mut edits = Edits::new(alloc);
     for made in 0..size {

@@ -60,7 +60,8 @@ impl RehearsedMirror {
         requires at { IsAt plan.now (n + 1) store.now }
         requires follows { Follows plan.now n self.old }
         ensures follows { OnOk result (Follows plan.now (n + 1) self.new) }
-        ensures mirror { OnOk result ((often : ℕ) (asked : Option Query) → IsMirror often asked self.old → IsMirror often asked self.new) }
+        ensures mirror { OnOk result ((often : ℕ) (asked : Option Query)
+            → IsMirror often asked self.old → IsMirror often asked self.new) }
     {
         if !is_due(self.period, plan.batches, n + 1) {
             return Ok(());

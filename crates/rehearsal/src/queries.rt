@@ -27,7 +27,8 @@ pub(crate) fn year_query(alloc: Global) -> Result<Query, AllocError>
 
 fn condition(alloc: Global, name: &str, pieces: Vec<Text>) -> Result<Query, AllocError>
     requires { 0 < length pieces.items }
-    ensures { IfOk result (λ query. query ≡ CondOf (record { name = name.now; op = Is; pattern = pieces.items })) }
+    ensures { IfOk result (λ query. query
+        ≡ CondOf (record { name = name.now; op = Is; pattern = pieces.items })) }
 {
     Ok(Query::Cond(Cond {
         name: Text::of(alloc, name)?,

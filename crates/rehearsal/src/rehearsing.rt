@@ -46,9 +46,15 @@ pub struct BrokenOff {
 /// Returns `BrokenOff` if an allocation fails, with the history of the share so far: the first batches.
 pub fn rehearse(alloc: Global, plan: &Rehearsal) -> Result<Rehearsed, BrokenOff>
     requires { AreInRange plan.now }
-    ensures history { IfOk result (λ done. done.history ≡ history_of (rehearsed plan.now.number plan.now.batches plan.now.size)) }
-    ensures summary { IfOk result (λ done. done.summary.items ≡ summary_text plan.now.keep (rehearsed plan.now.number plan.now.batches plan.now.size)) }
-    ensures part { IfErr result (λ broken. HasFirst (rehearsed plan.now.number plan.now.batches plan.now.size) broken.history) }
+    ensures history { IfOk result
+        (λ done. done.history ≡ history_of
+        (rehearsed plan.now.number plan.now.batches plan.now.size)) }
+    ensures summary { IfOk result
+        (λ done. done.summary.items
+        ≡ summary_text plan.now.keep
+        (rehearsed plan.now.number plan.now.batches plan.now.size)) }
+    ensures part { IfErr result (λ broken. HasFirst
+        (rehearsed plan.now.number plan.now.batches plan.now.size) broken.history) }
 {
     let (table, mut run) = match begun(alloc, plan) {
         Ok(begun) => begun,

@@ -60,7 +60,8 @@ impl Run {
         requires range { AreInRange plan.now }
         requires stands { Stands plan.now 0 self.old }
         requires mirrors { Mirrors plan.now 0 self.old }
-        ensures summary { IfOk result (λ text. text.items ≡ summary_text plan.now.keep (batches_of plan.now)) }
+        ensures summary { IfOk result
+            (λ text. text.items ≡ summary_text plan.now.keep (batches_of plan.now)) }
         ensures whole { OnOk result (self.new.log.entries ≡ history_of (batches_of plan.now)) }
         ensures part { OnErr result (HasFirst (batches_of plan.now) self.new.log.entries) }
     {
@@ -140,7 +141,8 @@ impl Run {
         requires range { AreInRange plan.now }
         requires stands { Stands plan.now plan.now.batches self.now }
         requires mirrors { Mirrors plan.now plan.now.batches self.now }
-        ensures { IfOk result (λ text. text.items ≡ summary_text plan.now.keep (batches_of plan.now)) }
+        ensures { IfOk result (λ text. text.items
+            ≡ summary_text plan.now.keep (batches_of plan.now)) }
     {
         summary(
             alloc,

@@ -22,7 +22,8 @@ pub(crate) fn summary(
     second: Standing,
     third: Standing,
 ) -> Result<Vec<u8>, AllocError>
-    ensures { IfOk result (λ text. text.items ≡ line (told (codes "revision") revision) ++ line (told (codes "items") items)
+    ensures { IfOk result (λ text. text.items
+        ≡ line (told (codes "revision") revision) ++ line (told (codes "items") items)
         ++ mirror_text 1 first.rows first.full first.delta ++ mirror_text 2 second.rows second.full second.delta ++ mirror_text 3 third.rows third.full third.delta) }
 {
     let mut out = Vec::new(alloc);
@@ -37,7 +38,8 @@ pub(crate) fn summary(
 }
 
 fn push_mirror(out: &mut Vec<u8>, number: u64, standing: Standing) -> Result<(), AllocError>
-    ensures { OnOk result (out.new.items ≡ out.old.items ++ mirror_text number standing.rows standing.full standing.delta) }
+    ensures { OnOk result (out.new.items
+        ≡ out.old.items ++ mirror_text number standing.rows standing.full standing.delta) }
 {
     push_told(out, "mirror", number)?;
     push_told(out, " rows", standing.rows)?;

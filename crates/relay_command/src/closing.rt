@@ -32,7 +32,8 @@ pub(crate) fn finish<W: Sink>(
     requires links { links_in links < 2 ^ 64 }
     requires requests { requests_in links < 2 ^ 64 }
     ensures left { LeavesShare share.history links result }
-    ensures told { TellsEnd (last_lines (revision (batches share.history)) links rounds.now fault) fault
+    ensures told { TellsEnd (last_lines (revision (batches share.history)) links rounds.now fault)
+        fault
         (output_of W.Sink output.old)
         (output_of W.Sink output.new)
         result.status }
@@ -52,7 +53,8 @@ fn last_lines(
 ) -> Result<Vec<u8>, AllocError>
     requires links { links_in (map (λ l. l.items) workers.now) < 2 ^ 64 }
     requires requests { requests_in (map (λ l. l.items) workers.now) < 2 ^ 64 }
-    ensures { IfOk result (λ lines. lines.items ≡ last_lines revision (map (λ l. l.items) workers.now) rounds.now fault.now) }
+    ensures { IfOk result (λ lines. lines.items
+        ≡ last_lines revision (map (λ l. l.items) workers.now) rounds.now fault.now) }
 {
     let mut lines = round_lines(alloc, rounds)?;
     if fault.is_none() {

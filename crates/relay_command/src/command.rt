@@ -56,7 +56,8 @@ fn given_back<N: Net>(net: &mut N, places: Places<N::L, N::D>)
         → AreNew N.D.written N.D.faults start.written places.listeners.items
         → IsGivenBack relaying start
         (net_of N.Net net.new) }
-    ensures closes { N.open_count net.new ≡ N.open_count net.old - (length places.listeners.items + 1) }
+    ensures closes { N.open_count net.new
+        ≡ N.open_count net.old - (length places.listeners.items + 1) }
 {
     close_all(net, places.listeners);
     net.close(places.link);

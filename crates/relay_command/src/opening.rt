@@ -37,12 +37,14 @@ pub(crate) fn opened<N: Net>(
         (net_of N.Net net.old)
         (net_of N.Net net.new)
         (N.L.taken p.link) (N.L.left p.link) (N.L.faults p.link) (map N.D.coming p.listeners.items)) }
-    ensures listeners { IfOk result (λ p. AreNew N.D.written N.D.faults (N.written net.old) p.listeners.items) }
+    ensures listeners { IfOk result
+        (λ p. AreNew N.D.written N.D.faults (N.written net.old) p.listeners.items) }
     ensures failed { IfErr result (λ stop. FailsToOpen relaying.now
         (net_of N.Net net.old)
         (net_of N.Net net.new)
         stop) }
-    ensures opens { IfOk result (λ p. N.open_count net.new ≡ N.open_count net.old + (length p.listeners.items + 1)) }
+    ensures opens { IfOk result (λ p. N.open_count net.new
+        ≡ N.open_count net.old + (length p.listeners.items + 1)) }
     ensures closes { OnErr result (N.open_count net.new ≡ N.open_count net.old) }
 {
     let link = match net.connect(relaying.upstream.as_str()) {

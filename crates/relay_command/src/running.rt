@@ -47,7 +47,8 @@ pub(crate) fn relay_begun<W: Sink, N: Net, R: Threads + Wait + Clock + Sync>(
     requires listeners { length places.listeners.items ≡ relaying.now.workers + 1 }
     requires crew { relaying.now.workers ≤ vec_capacity begun.room.crew }
     requires links { relaying.now.workers ≤ vec_capacity begun.room.links }
-    ensures serves { (start : NetSeen) (before first : OutputSeen) (front : List ℕ) → HasBegun relaying.now before first begun
+    ensures serves { (start : NetSeen) (before first : OutputSeen) (front : List ℕ)
+        → HasBegun relaying.now before first begun
         → HasOpened relaying.now start (net_of N.Net net.old)
         (N.L.taken places.link) (N.L.left places.link) (N.L.faults places.link) (map N.D.coming places.listeners.items)
         → AreNew N.D.written N.D.faults start.written places.listeners.items
@@ -55,7 +56,8 @@ pub(crate) fn relay_begun<W: Sink, N: Net, R: Threads + Wait + Clock + Sync>(
         → HasServed relaying.now front start
         (net_of N.Net net.new)
         before (output_of W.Sink output.new) result }
-    ensures closes { N.open_count net.new ≡ N.open_count net.old - (length places.listeners.items + 1) }
+    ensures closes { N.open_count net.new
+        ≡ N.open_count net.old - (length places.listeners.items + 1) }
 {
     let Places { link, listeners } = places;
     let (begun, pass, listener) = assign_workers(rt, alloc, begun, listeners);
@@ -111,12 +113,16 @@ fn assign_workers<D: Drop, R: Wait>(
     ensures lock { lock_id result.0.lock ≡ lock_id begun.lock }
     ensures ready { IsReady (lock_id result.0.lock) result.0.first }
     ensures pass { known result.0.first ≡ known begun.first }
-    ensures hired { All (IsHired (lock_id result.0.lock) (known result.0.first)) result.0.room.crew.items }
-    ensures roles { map (λ w. w.role) result.0.room.crew.items ≡ map (λ w. Role.Listen) result.0.room.crew.items }
-    ensures listeners { listeners.items ≡ map (λ w. w.listener) result.0.room.crew.items ++ result.2 ∷ [] }
+    ensures hired { All (IsHired (lock_id result.0.lock) (known result.0.first))
+        result.0.room.crew.items }
+    ensures roles { map (λ w. w.role) result.0.room.crew.items
+        ≡ map (λ w. Role.Listen) result.0.room.crew.items }
+    ensures listeners { listeners.items
+        ≡ map (λ w. w.listener) result.0.room.crew.items ++ result.2 ∷ [] }
     ensures links { result.0.room.links ≡ begun.room.links }
     ensures relay_ready { IsReady (lock_id result.0.lock) result.1 }
-    ensures relay_pass { known result.1 ≡ fresh (known result.1).number (known begun.first).settings (known begun.first).seen }
+    ensures relay_pass { known result.1
+        ≡ fresh (known result.1).number (known begun.first).settings (known begun.first).seen }
     ensures relay_some { 1 ≤ (known result.1).number }
     ensures relay_few { (known result.1).number + 1 ≤ passes_of begun.lock }
 {

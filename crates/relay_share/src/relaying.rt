@@ -36,7 +36,9 @@ pub fn relay_link<K: Link, R: Wait>(
     requires some { 1 ≤ rounds }
     requires few { rounds ≤ 16384 }
     ensures ready { IsReady (lock_id lock.now) pass.new }
-    ensures relayed { HasRelayed host.now rounds (place (K.taken link.old) (K.left link.old) nothing_read) (K.taken link.new) (known pass.old) (known pass.new) result }
+    ensures relayed { HasRelayed host.now rounds
+        (place (K.taken link.old) (K.left link.old) nothing_read) (K.taken link.new)
+        (known pass.old) (known pass.new) result }
     ensures count { CountsRelay (K.faults link.old) (K.faults link.new) result.end }
 {
     let own = OwnShare { rt, lock, bell };
@@ -60,7 +62,9 @@ fn relay_rounds<K: Link, R: Wait>(
     requires few { rounds ≤ 16384 }
     requires nothing { done.old.items ≡ [] }
     ensures ready { IsReady (lock_id own.now.lock.now) pass.new }
-    ensures ends { EndsRelay host.now rounds (place (K.taken link.old) (K.left link.old) nothing_read) (K.taken link.new) (known pass.old) (known pass.new) done.new.items result }
+    ensures ends { EndsRelay host.now rounds
+        (place (K.taken link.old) (K.left link.old) nothing_read) (K.taken link.new)
+        (known pass.old) (known pass.new) done.new.items result }
     ensures count { CountsRelay (K.faults link.old) (K.faults link.new) result }
 {
     let mut follower = match Follower::open(alloc, link, host) {

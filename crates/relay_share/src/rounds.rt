@@ -40,15 +40,19 @@ pub(crate) fn next_round<K: Link, R: Wait>(
     requires ready { IsReady (lock_id own.now.lock.now) pass.old }
     requires few { follower.old.calls < 65535 }
     ensures ready { IsReady (lock_id own.now.lock.now) pass.new }
-    ensures goes_on { OnOk result ((rounds : ℕ) (p : Point) (k : Seen) (ls : List Listing) → (length ls == rounds) ≡ false
+    ensures goes_on { OnOk result ((rounds : ℕ) (p : Point) (k : Seen) (ls : List Listing)
+        → (length ls == rounds) ≡ false
         → Stands follower.old.host rounds p (Holding follower.old.known ls) (place (K.taken link.old) (K.left link.old) follower.old.ahead) k (known pass.old) done.old.items relay.old
         → (l : Listing) × Stands follower.old.host rounds p (Holding follower.old.known (ls ++ l ∷ [])) (place (K.taken link.new) (K.left link.new) follower.new.ahead) k (known pass.new) done.new.items relay.new) }
-    ensures ends { IfErr result (λ end. (rounds : ℕ) (p : Point) (k : Seen) (ls : List Listing) → (length ls == rounds) ≡ false
+    ensures ends { IfErr result (λ end. (rounds : ℕ) (p : Point) (k : Seen) (ls : List Listing)
+        → (length ls == rounds) ≡ false
         → Stands follower.old.host rounds p (Holding follower.old.known ls) (place (K.taken link.old) (K.left link.old) follower.old.ahead) k (known pass.old) done.old.items relay.old
         → EndsRelay follower.old.host rounds p (K.taken link.new) k (known pass.new) done.new.items end) }
-    ensures stays { (follower.new.host ≡ follower.old.host) × (follower.new.known ≡ follower.old.known) }
+    ensures stays { (follower.new.host ≡ follower.old.host)
+        × (follower.new.known ≡ follower.old.known) }
     ensures calls { follower.new.calls ≤ follower.old.calls + 2 }
-    ensures count { MatchResult result (λ _. K.faults link.new ≡ K.faults link.old) (λ end. CountsRelay (K.faults link.old) (K.faults link.new) end) }
+    ensures count { MatchResult result (λ _. K.faults link.new ≡ K.faults link.old)
+        (λ end. CountsRelay (K.faults link.old) (K.faults link.new) end) }
 {
     match follower.wait(link, relay.base()) {
         Ok(_) => relay_round(own, pass, follower, link, relay, done),
@@ -74,9 +78,11 @@ pub(crate) fn relay_round<K: Link, R: Wait>(
     ensures ends { IfErr result (λ end. (rounds : ℕ) (p : Point) (k : Seen) (ls : List Listing)
         → Stands follower.old.host rounds p (Asking follower.old.known ls) (place (K.taken link.old) (K.left link.old) follower.old.ahead) k (known pass.old) done.old.items relay.old
         → EndsRelay follower.old.host rounds p (K.taken link.new) k (known pass.new) done.new.items end) }
-    ensures stays { (follower.new.host ≡ follower.old.host) × (follower.new.known ≡ follower.old.known) }
+    ensures stays { (follower.new.host ≡ follower.old.host)
+        × (follower.new.known ≡ follower.old.known) }
     ensures calls { follower.new.calls ≡ follower.old.calls + 1 }
-    ensures count { MatchResult result (λ _. K.faults link.new ≡ K.faults link.old) (λ end. CountsRelay (K.faults link.old) (K.faults link.new) end) }
+    ensures count { MatchResult result (λ _. K.faults link.new ≡ K.faults link.old)
+        (λ end. CountsRelay (K.faults link.old) (K.faults link.new) end) }
 {
     let look = Look {
         query: None,
@@ -100,9 +106,11 @@ fn take_tag<R: Wait>(
 ) -> Result<(), RelayEnd>
     requires ready { IsReady (lock_id own.now.lock.now) pass.old }
     ensures ready { IsReady (lock_id own.now.lock.now) pass.new }
-    ensures taken { OnOk result ((held : Held) → IsAscending held.rows → relay.old ≡ relaying_at held
+    ensures taken { OnOk result ((held : Held) → IsAscending held.rows
+        → relay.old ≡ relaying_at held
         → IsListed held tag.now (λ l. Takes held l (known pass.old) (known pass.new) done.old.items done.new.items relay.new)) }
-    ensures untaken { IfErr result (λ end. (held : Held) → IsAscending held.rows → relay.old ≡ relaying_at held
+    ensures untaken { IfErr result (λ end. (held : Held) → IsAscending held.rows
+        → relay.old ≡ relaying_at held
         → IsUnread held tag.now (known pass.old) (known pass.new) end) }
     ensures kept { OnErr result (done.new.items ≡ done.old.items) }
     ensures faultless { IfErr result (λ end. is_fault end ≡ false) }
@@ -130,10 +138,12 @@ fn take_listing<R: Wait>(
 ) -> Result<(), RelayEnd>
     requires ready { IsReady (lock_id own.now.lock.now) pass.old }
     ensures ready { IsReady (lock_id own.now.lock.now) pass.new }
-    ensures taken { OnOk result ((held : Held) → IsAscending held.rows → relay.old ≡ relaying_at held
+    ensures taken { OnOk result ((held : Held) → IsAscending held.rows
+        → relay.old ≡ relaying_at held
         → All (IsRow Items) (listing_of Items (told_of told.entry)).rows
         → Takes held (listing_of Items (told_of told.entry)) (known pass.old) (known pass.new) done.old.items done.new.items relay.new) }
-    ensures untaken { IfErr result (λ end. (held : Held) → IsAscending held.rows → relay.old ≡ relaying_at held
+    ensures untaken { IfErr result (λ end. (held : Held) → IsAscending held.rows
+        → relay.old ≡ relaying_at held
         → All (IsRow Items) (listing_of Items (told_of told.entry)).rows
         → IsUntaken held (listing_of Items (told_of told.entry)) (known pass.old) (known pass.new) end) }
     ensures kept { OnErr result (done.new.items ≡ done.old.items) }

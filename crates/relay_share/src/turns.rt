@@ -97,7 +97,8 @@ fn ask_share<L: Ledger>(blank: Blank, share: &mut Share, by: u32, ask: &Ask) -> 
     requires valid { IsValidWant ask.now.want }
     requires change { is_change ask.now.want ≡ true }
     ensures grows { Grows share.old by share.new }
-    ensures told { (k : Seen) → k.number ≡ by → Finds k share.old → IsTold k (after_turn k share.new.history) ask.now result }
+    ensures told { (k : Seen) → k.number ≡ by → Finds k share.old
+        → IsTold k (after_turn k share.new.history) ask.now result }
 {
     let mut steps = Steps::<L>::open(blank);
     let answer = share.answer(by, ask, &mut steps);

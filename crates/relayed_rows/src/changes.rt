@@ -25,9 +25,11 @@ pub(crate) type Changes = BTreeMap<u32, Option<SharedRow>>;
 
 /// Returns the changes that a listing makes to held rows.
 pub(crate) fn changes(alloc: Global, held: &Rows, told: ToldRef<'_>) -> Result<Changes, Untaken>
-    ensures made { IfOk result (λ changes. changes.entries ≡ changes_of held.now.entries (told_of told.entry)) }
+    ensures made { IfOk result (λ changes. changes.entries
+        ≡ changes_of held.now.entries (told_of told.entry)) }
     ensures read { OnOk result (position_from is_unread 0 told.entry.rows.now ≡ None) }
-    ensures unread { (index : ℕ) → (result ≡ Err (Untaken.Row index)) → position_from is_unread 0 told.entry.rows.now ≡ Some index }
+    ensures unread { (index : ℕ) → (result ≡ Err (Untaken.Row index))
+        → position_from is_unread 0 told.entry.rows.now ≡ Some index }
 {
     let mut changes = BTreeMap::new(alloc);
     clear_ids(&mut changes, held, told)?;
@@ -37,7 +39,8 @@ pub(crate) fn changes(alloc: Global, held: &Rows, told: ToldRef<'_>) -> Result<C
 
 // Drops every held id for a full listing, and the deleted ids for a delta.
 fn clear_ids(changes: &mut Changes, held: &Rows, told: ToldRef<'_>) -> Result<(), AllocError>
-    ensures { OnOk result (changes.new.entries ≡ fold with_gone changes.old.entries (ids_cleared held.now.entries (told_of told.entry))) }
+    ensures { OnOk result (changes.new.entries
+        ≡ fold with_gone changes.old.entries (ids_cleared held.now.entries (told_of told.entry))) }
 {
     if told.is_delta {
         clear_deleted(changes, told.gone)
@@ -48,7 +51,8 @@ fn clear_ids(changes: &mut Changes, held: &Rows, told: ToldRef<'_>) -> Result<()
 
 #[tactic(auto, using(mirror_core::proofs::TagFacts::folded_left))]
 fn clear_deleted(changes: &mut Changes, keys: &[Tag]) -> Result<(), AllocError>
-    ensures { OnOk result (changes.new.entries ≡ fold with_gone changes.old.entries (map (key_of Target.Items) keys.now)) }
+    ensures { OnOk result (changes.new.entries
+        ≡ fold with_gone changes.old.entries (map (key_of Target.Items) keys.now)) }
 {
     for key in keys {
         changes.insert(key_of(Target::Items, key), None)?;
@@ -57,7 +61,8 @@ fn clear_deleted(changes: &mut Changes, keys: &[Tag]) -> Result<(), AllocError>
 }
 
 fn clear_held(changes: &mut Changes, held: &Rows) -> Result<(), AllocError>
-    ensures { OnOk result (changes.new.entries ≡ fold with_gone changes.old.entries (keys_of held.now.entries)) }
+    ensures { OnOk result (changes.new.entries
+        ≡ fold with_gone changes.old.entries (keys_of held.now.entries)) }
 {
     for (id, _) in held {
         changes.insert(*id, None)?;
@@ -66,9 +71,11 @@ fn clear_held(changes: &mut Changes, held: &Rows) -> Result<(), AllocError>
 }
 
 fn put_rows(alloc: Global, changes: &mut Changes, tags: &[Tag]) -> Result<(), Untaken>
-    ensures put { OnOk result (changes.new.entries ≡ fold with_row changes.old.entries (rows_told tags.now)) }
+    ensures put { OnOk result (changes.new.entries
+        ≡ fold with_row changes.old.entries (rows_told tags.now)) }
     ensures read { OnOk result (position_from is_unread 0 tags.now ≡ None) }
-    ensures unread { (index : ℕ) → (result ≡ Err (Untaken.Row index)) → position_from is_unread 0 tags.now ≡ Some index }
+    ensures unread { (index : ℕ) → (result ≡ Err (Untaken.Row index))
+        → position_from is_unread 0 tags.now ≡ Some index }
 {
     for (index, tag) in tags.iter().enumerate() {
         if !put_row(alloc, changes, tag)? {
@@ -82,7 +89,8 @@ fn put_rows(alloc: Global, changes: &mut Changes, tags: &[Tag]) -> Result<(), Un
 
 // Adds the row of `tag`. Returns whether the tag has one.
 fn put_row(alloc: Global, changes: &mut Changes, tag: &Tag) -> Result<bool, AllocError>
-    ensures put { OnOk result (changes.new.entries ≡ fold with_row changes.old.entries (rows_told (tag.now ∷ []))) }
+    ensures put { OnOk result (changes.new.entries
+        ≡ fold with_row changes.old.entries (rows_told (tag.now ∷ []))) }
     ensures has { IfOk result (λ has. has ≡ is_some (row_of tag.now)) }
 {
     let Some(row) = row_of(alloc, tag)? else {

@@ -32,7 +32,8 @@ pub(crate) fn new_rows(
     held: &Rows,
     changes: &Changes,
 ) -> Result<Vec<(u32, SharedRow)>, AllocError>
-    ensures { IfOk result (λ rows. rows.items ≡ new_rows held.now.entries (rows_in changes.now.entries)) }
+    ensures { IfOk result (λ rows. rows.items
+        ≡ new_rows held.now.entries (rows_in changes.now.entries)) }
 {
     let mut rows = Vec::new(alloc);
     for (id, change) in changes {
@@ -48,7 +49,8 @@ fn push_new(
     id: u32,
     change: &Option<SharedRow>,
 ) -> Result<(), AllocError>
-    ensures { OnOk result (rows.new.items ≡ rows.old.items ++ new_rows held.now.entries (rows_in ((id, change.now) ∷ []))) }
+    ensures { OnOk result (rows.new.items
+        ≡ rows.old.items ++ new_rows held.now.entries (rows_in ((id, change.now) ∷ []))) }
 {
     let Some(row) = change else {
         return Ok(());

@@ -63,7 +63,8 @@ fn value_told(property: Property, tag: &Tag) -> Result<Option<PropValue>, AllocE
 // Returns the value of the kind that `tag` states, if it is in range. Every number that fits a kind's width is in
 // range.
 fn value_in_range(kind: Kind, tag: &Tag) -> Result<Option<PropValue>, AllocError>
-    ensures { IfOk result (λ value. value ≡ option_and_then (if_of_kind kind) (value_of_kind kind tag.now)) }
+    ensures { IfOk result (λ value. value
+        ≡ option_and_then (if_of_kind kind) (value_of_kind kind tag.now)) }
 {
     match kind {
         Kind::U8 => match &tag.value {

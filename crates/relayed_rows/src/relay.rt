@@ -89,15 +89,20 @@ impl Relay {
     ///
     /// Returns `Row` if a listed tag states no row, and `Memory` if allocation fails. The relay is then unchanged.
     pub fn take(&mut self, told: ToldRef<'_>) -> Result<Change, Untaken>
-        ensures taken { OnOk result ((held : Held) → IsAscending held.rows → self.old ≡ relaying_at held
+        ensures taken { OnOk result ((held : Held) → IsAscending held.rows
+            → self.old ≡ relaying_at held
             → All (IsRow Target.Items) (listing_of Target.Items (told_of told.entry)).rows
             → self.new ≡ relaying_at (mirror_after held (listing_of Target.Items (told_of told.entry)))) }
-        ensures changed { IfOk result (λ change. change.batch ≡ difference self.old.library self.new.library) }
-        ensures counted { IfOk result (λ change. (change.drops ≡ length (gone_ids self.old.library self.new.library))
+        ensures changed { IfOk result
+            (λ change. change.batch ≡ difference self.old.library self.new.library) }
+        ensures counted { IfOk result
+            (λ change. (change.drops ≡ length (gone_ids self.old.library self.new.library))
             × (change.puts ≡ length (new_rows self.old.library self.new.library))) }
         ensures valid { IfOk result (λ change. AreValid change.batch) }
-        ensures read { OnOk result (first_unread (listing_of Target.Items (told_of told.entry)) ≡ None) }
-        ensures unread { (index : ℕ) → (result ≡ Err (Untaken.Row index)) → first_unread (listing_of Target.Items (told_of told.entry)) ≡ Some index }
+        ensures read { OnOk result (first_unread (listing_of Target.Items (told_of told.entry))
+            ≡ None) }
+        ensures unread { (index : ℕ) → (result ≡ Err (Untaken.Row index))
+            → first_unread (listing_of Target.Items (told_of told.entry)) ≡ Some index }
         ensures library { IsLibrary self.new.library }
         ensures unchanged { OnErr result (self.new ≡ self.old) }
     {
@@ -118,8 +123,11 @@ impl Relay {
 fn make(alloc: Global, held: &mut Rows, changes: &Changes) -> Result<Change, AllocError>
     requires { AreSound held.old.entries changes.now.entries }
     ensures made { OnOk result (held.new.entries ≡ made held.old.entries changes.now.entries) }
-    ensures batch { IfOk result (λ change. change.batch ≡ drops_and_puts (dropped_ids held.old.entries changes.now.entries) (new_rows held.old.entries (rows_in changes.now.entries))) }
-    ensures counted { IfOk result (λ change. (change.drops ≡ length (dropped_ids held.old.entries changes.now.entries))
+    ensures batch { IfOk result (λ change. change.batch
+        ≡ drops_and_puts (dropped_ids held.old.entries changes.now.entries)
+        (new_rows held.old.entries (rows_in changes.now.entries))) }
+    ensures counted { IfOk result
+        (λ change. (change.drops ≡ length (dropped_ids held.old.entries changes.now.entries))
         × (change.puts ≡ length (new_rows held.old.entries (rows_in changes.now.entries)))) }
     ensures unchanged { OnErr result (held.new.entries ≡ held.old.entries) }
 {

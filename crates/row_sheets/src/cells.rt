@@ -38,8 +38,10 @@ impl Cells {
         rows: &[SharedRow],
         properties: &[Property],
     ) -> Result<Cells, AllocError>
-        ensures cells { IfOk result (λ cells. AreCells (cells_of properties.now rows.now) cells.bytes.items cells.starts.items) }
-        ensures values { IfOk result (λ _. All (λ row. All (HasValue row.item) properties.now) rows.now) }
+        ensures cells { IfOk result (λ cells. AreCells
+            (cells_of properties.now rows.now) cells.bytes.items cells.starts.items) }
+        ensures values { IfOk result
+            (λ _. All (λ row. All (HasValue row.item) properties.now) rows.now) }
     {
         let mut cells = Cells::new(alloc)?;
         for row in rows {
@@ -62,7 +64,10 @@ impl Cells {
     }
 
     fn push_row(&mut self, item: &Item, properties: &[Property]) -> Result<(), AllocError>
-        ensures cells { OnOk result ((done : List (List ℕ)) → AreCells done self.old.bytes.items self.old.starts.items → AreCells (done ++ map (cell item.now) properties.now) self.new.bytes.items self.new.starts.items) }
+        ensures cells { OnOk result ((done : List (List ℕ))
+            → AreCells done self.old.bytes.items self.old.starts.items
+            → AreCells (done ++ map (cell item.now) properties.now) self.new.bytes.items
+            self.new.starts.items) }
         ensures values { OnOk result (All (HasValue item.now) properties.now) }
     {
         for property in properties {
@@ -72,7 +77,10 @@ impl Cells {
     }
 
     fn push(&mut self, item: &Item, property: Property) -> Result<(), AllocError>
-        ensures cells { OnOk result ((done : List (List ℕ)) → AreCells done self.old.bytes.items self.old.starts.items → AreCells (done ++ cell item.now property ∷ []) self.new.bytes.items self.new.starts.items) }
+        ensures cells { OnOk result ((done : List (List ℕ))
+            → AreCells done self.old.bytes.items self.old.starts.items
+            → AreCells (done ++ cell item.now property ∷ []) self.new.bytes.items
+            self.new.starts.items) }
         ensures value { HasValue item.now property }
     {
         push_cell(&mut self.bytes, item, property)?;
@@ -93,12 +101,15 @@ impl Cells {
         from: usize,
         to: usize,
     ) -> RowTags<'_>
-        requires cells { AreCells (cells_of properties.now rows.now) self.now.bytes.items self.now.starts.items }
+        requires cells { AreCells (cells_of properties.now rows.now) self.now.bytes.items
+            self.now.starts.items }
         requires row { row < length rows.now }
         requires order { from ≤ to }
         requires within { to ≤ length properties.now }
         ensures within { result.len ≤ length result.bytes.now }
-        ensures tags { (d : Row) → take result.len result.bytes.now ≡ joined (row_cells (take (to - from) (drop from properties.now)) (slice_index_or rows.now row d)) }
+        ensures tags { (d : Row) → take result.len result.bytes.now
+            ≡ joined (row_cells (take (to - from) (drop from properties.now))
+            (slice_index_or rows.now row d)) }
     {
         self.part(properties.len(), row, from, to)
     }
@@ -107,10 +118,14 @@ impl Cells {
     fn part(&self, wide: usize, row: usize, from: usize, to: usize) -> RowTags<'_>
         requires order { from ≤ to }
         requires within { row * wide + to < length self.now.starts.items }
-        requires begin { slice_index self.now.starts.items (row * wide + from) ≤ slice_index self.now.starts.items (row * wide + to) }
-        requires end { slice_index self.now.starts.items (row * wide + to) ≤ length self.now.bytes.items }
-        ensures len { result.len ≡ slice_index self.now.starts.items (row * wide + to) - slice_index self.now.starts.items (row * wide + from) }
-        ensures bytes { result.bytes.now ≡ drop (slice_index self.now.starts.items (row * wide + from)) self.now.bytes.items }
+        requires begin { slice_index self.now.starts.items (row * wide + from)
+            ≤ slice_index self.now.starts.items (row * wide + to) }
+        requires end { slice_index self.now.starts.items (row * wide + to)
+            ≤ length self.now.bytes.items }
+        ensures len { result.len ≡ slice_index self.now.starts.items
+            (row * wide + to) - slice_index self.now.starts.items (row * wide + from) }
+        ensures bytes { result.bytes.now
+            ≡ drop (slice_index self.now.starts.items (row * wide + from)) self.now.bytes.items }
     {
         let starts = self.starts.as_slice();
         let count = starts.len();

@@ -16,7 +16,8 @@ pub(crate) fn column_lens(
     rows: &[SharedRow],
     properties: &[Property],
 ) -> Result<Vec<u32>, AllocError>
-    requires { AreCells (cells_of properties.now rows.now) cells.now.bytes.items cells.now.starts.items }
+    requires { AreCells (cells_of properties.now rows.now) cells.now.bytes.items
+        cells.now.starts.items }
     ensures { IfOk result (λ lens. lens.items ≡ map (column_length rows.now) properties.now) }
 {
     let mut lens = Vec::with_capacity(alloc, properties.len())?;
@@ -33,9 +34,11 @@ fn column_len(
     properties: &[Property],
     index: usize,
 ) -> Result<u32, AllocError>
-    requires cells { AreCells (cells_of properties.now rows.now) cells.now.bytes.items cells.now.starts.items }
+    requires cells { AreCells (cells_of properties.now rows.now) cells.now.bytes.items
+        cells.now.starts.items }
     requires index { index < length properties.now }
-    ensures { IfOk result (λ len. (d : Property) → len ≡ column_length rows.now (slice_index_or properties.now index d)) }
+    ensures { IfOk result (λ len. (d : Property)
+        → len ≡ column_length rows.now (slice_index_or properties.now index d)) }
 {
     let mut len = 0;
     for row in 0..rows.len() {

@@ -33,7 +33,8 @@ pub(crate) fn merged(
     rows: &[SharedRow],
     changes: &[Change],
 ) -> Result<Vec<SharedRow>, AllocError>
-    ensures { IfOk result (λ merged. AreChanges changes.now → IsAscending (by_id rows.now) → AreTurned (changed changes.now (by_id rows.now)) (by_id merged.items)) }
+    ensures { IfOk result (λ merged. AreChanges changes.now → IsAscending (by_id rows.now)
+        → AreTurned (changed changes.now (by_id rows.now)) (by_id merged.items)) }
 {
     let mut merged = Vec::with_capacity(alloc, rows.len().saturating_add(changes.len()))?;
     let mut next = 0;
@@ -54,7 +55,9 @@ fn push_turned(
     changes: &[Change],
 ) -> Result<usize, AllocError>
     ensures within { IfOk result (λ count. count ≤ length changes.now) }
-    ensures turned { IfOk result (λ count. (wanted : ℕ → Option Row) (rest : List (ℕ × Row)) → IsTurned wanted (by_id merged.old.items) changes.now ((row.now.id, row.now) ∷ rest) → IsTurned wanted (by_id merged.new.items) (drop count changes.now) rest) }
+    ensures turned { IfOk result (λ count. (wanted : ℕ → Option Row) (rest : List (ℕ × Row))
+        → IsTurned wanted (by_id merged.old.items) changes.now ((row.now.id, row.now) ∷ rest)
+        → IsTurned wanted (by_id merged.new.items) (drop count changes.now) rest) }
 {
     let id = u64::from(row.row().id);
     let (below, from) = changes.split_at(count_below(changes, id));

@@ -95,7 +95,9 @@ impl Sheet {
         requires order { from ≤ to }
         requires within { to ≤ length self.now.properties }
         ensures within { result.len ≤ length result.bytes.now }
-        ensures tags { (d : Row) → take result.len result.bytes.now ≡ joined (row_cells (take (to - from) (drop from self.now.properties)) (slice_index_or self.now.rows row d)) }
+        ensures tags { (d : Row) → take result.len result.bytes.now
+            ≡ joined (row_cells (take (to - from) (drop from self.now.properties))
+            (slice_index_or self.now.rows row d)) }
     {
         self.cells.tags(
             self.rows.as_slice(),
@@ -109,7 +111,8 @@ impl Sheet {
     /// How many bytes all rows have of the property at the index. It is kept as a number, so it is read and not counted.
     pub fn column_len(&self, index: usize) -> u64
         requires { index < length self.now.properties }
-        ensures { (d : Property) → result ≡ column_length self.now.rows (slice_index_or self.now.properties index d) }
+        ensures { (d : Property) → result
+            ≡ column_length self.now.rows (slice_index_or self.now.properties index d) }
     {
         u64::from(self.column_lens[index])
     }

@@ -28,7 +28,8 @@ pub(crate) fn push_cell(
 
 fn push_value(bytes: &mut Vec<u8>, property: Property, value: &PropValue) -> Result<(), AllocError>
     requires { is_value_of property value.now ≡ true }
-    ensures { OnOk result (bytes.new.items ≡ bytes.old.items ++ spelling (property_tag property value.now)) }
+    ensures { OnOk result (bytes.new.items
+        ≡ bytes.old.items ++ spelling (property_tag property value.now)) }
 {
     match value {
         PropValue::Number(n) => push_number(bytes, property.code(), property.kind(), *n),
@@ -38,7 +39,8 @@ fn push_value(bytes: &mut Vec<u8>, property: Property, value: &PropValue) -> Res
 
 fn push_number(bytes: &mut Vec<u8>, of: Code, kind: Kind, n: u64) -> Result<(), AllocError>
     requires { n < numbers_of kind }
-    ensures { OnOk result (bytes.new.items ≡ bytes.old.items ++ spelling (leaf of (number_leaf kind n))) }
+    ensures { OnOk result (bytes.new.items
+        ≡ bytes.old.items ++ spelling (leaf of (number_leaf kind n))) }
 {
     match kind {
         Kind::U8 => push_leaf(bytes, of, &(n as u8).to_be_bytes()),

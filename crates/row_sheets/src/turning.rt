@@ -25,7 +25,8 @@ pub(crate) fn turned(
 ) -> Result<Vec<Arc<Sheet, Global>>, AllocError>
     requires changes { AreChanges changes.now }
     requires rows { IsAscending (by_id (rows_in sheets.now)) }
-    ensures { IfOk result (λ turned. AreTurned (changed changes.now (by_id (rows_in sheets.now))) (by_id (rows_in turned.items))) }
+    ensures { IfOk result (λ turned. AreTurned (changed changes.now (by_id (rows_in sheets.now)))
+        (by_id (rows_in turned.items))) }
 {
     let mut turned = Vec::with_capacity(alloc, sheets.len().saturating_add(1))?;
     let Some((last, front)) = sheets.split_last() else {
@@ -47,7 +48,10 @@ fn turn_all(
     changes: &[Change],
 ) -> Result<usize, AllocError>
     ensures within { IfOk result (λ count. count ≤ length changes.now) }
-    ensures turned { IfOk result (λ count. (wanted : ℕ → Option Row) (rest : List (ℕ × Row)) → IsTurned wanted (by_id (rows_in turned.old.items)) changes.now (by_id (rows_in sheets.now) ++ rest) → IsTurned wanted (by_id (rows_in turned.new.items)) (drop count changes.now) rest) }
+    ensures turned { IfOk result (λ count. (wanted : ℕ → Option Row) (rest : List (ℕ × Row))
+        → IsTurned wanted (by_id (rows_in turned.old.items)) changes.now
+        (by_id (rows_in sheets.now) ++ rest)
+        → IsTurned wanted (by_id (rows_in turned.new.items)) (drop count changes.now) rest) }
 {
     let mut next = 0;
     for sheet in sheets {
@@ -65,7 +69,10 @@ fn turn(
     changes: &[Change],
 ) -> Result<usize, AllocError>
     ensures within { IfOk result (λ count. count ≤ length changes.now) }
-    ensures turned { IfOk result (λ count. (wanted : ℕ → Option Row) (rest : List (ℕ × Row)) → IsTurned wanted (by_id (rows_in turned.old.items)) changes.now (by_id (rows_on sheet.now) ++ rest) → IsTurned wanted (by_id (rows_in turned.new.items)) (drop count changes.now) rest) }
+    ensures turned { IfOk result (λ count. (wanted : ℕ → Option Row) (rest : List (ℕ × Row))
+        → IsTurned wanted (by_id (rows_in turned.old.items)) changes.now
+        (by_id (rows_on sheet.now) ++ rest)
+        → IsTurned wanted (by_id (rows_in turned.new.items)) (drop count changes.now) rest) }
 {
     let count = count_below(changes, u64::from(sheet.last()) + 1);
     if count == 0 {
@@ -86,7 +93,9 @@ fn turn_last(
     sheet: &Arc<Sheet, Global>,
     changes: &[Change],
 ) -> Result<(), AllocError>
-    ensures { OnOk result ((wanted : ℕ → Option Row) → IsTurned wanted (by_id (rows_in turned.old.items)) changes.now (by_id (rows_on sheet.now)) → AreTurned wanted (by_id (rows_in turned.new.items))) }
+    ensures { OnOk result ((wanted : ℕ → Option Row)
+        → IsTurned wanted (by_id (rows_in turned.old.items)) changes.now (by_id (rows_on sheet.now))
+        → AreTurned wanted (by_id (rows_in turned.new.items))) }
 {
     if changes.is_empty() {
         turned.push(Arc::try_clone(sheet)?)?;
@@ -124,7 +133,8 @@ fn push_row(
     row: SharedRow,
     size: usize,
 ) -> Result<(), AllocError>
-    ensures { OnOk result (rows_in turned.new.items ++ part.new.items ≡ (rows_in turned.old.items ++ part.old.items) ++ row ∷ []) }
+    ensures { OnOk result (rows_in turned.new.items ++ part.new.items
+        ≡ (rows_in turned.old.items ++ part.old.items) ++ row ∷ []) }
 {
     part.push(row)?;
     if part.len() < size {

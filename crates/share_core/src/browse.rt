@@ -44,8 +44,10 @@ pub(crate) fn browse<L: Ledger>(
     steps: &mut Steps<L>,
 ) -> Result<ReplyContent, AllocError>
     requires held { (h : List Entry) × AreHeld h stores.now }
-    ensures content { IfOk result (λ content. (h : List Entry) → AreHeld h stores.now → IsContent (200, Tagged (browse_body h by (option_copied query.entry))) content) }
-    ensures cost { (h : List Entry) → AreHeld h stores.now → steps.new ≤ steps.old + value_ticks (all_edits h) (option_copied query.entry) }
+    ensures content { IfOk result (λ content. (h : List Entry) → AreHeld h stores.now
+        → IsContent (200, Tagged (browse_body h by (option_copied query.entry))) content) }
+    ensures cost { (h : List Entry) → AreHeld h stores.now
+        → steps.new ≤ steps.old + value_ticks (all_edits h) (option_copied query.entry) }
 {
     let entries = entries(alloc, stores, by, query, steps)?;
     let revision = stores.items.revision();
@@ -59,8 +61,10 @@ fn entries<L: Ledger>(
     query: Option<&Query>,
     steps: &mut Steps<L>,
 ) -> Result<Tags, AllocError>
-    ensures tags { IfOk result (λ tags. (h : List Entry) → AreHeld h stores.now → tags ≡ map value_tag (browse_values (all_edits h) by (option_copied query.entry))) }
-    ensures cost { (h : List Entry) → AreHeld h stores.now → steps.new ≤ steps.old + value_ticks (all_edits h) (option_copied query.entry) }
+    ensures tags { IfOk result (λ tags. (h : List Entry) → AreHeld h stores.now
+        → tags ≡ map value_tag (browse_values (all_edits h) by (option_copied query.entry))) }
+    ensures cost { (h : List Entry) → AreHeld h stores.now
+        → steps.new ≤ steps.old + value_ticks (all_edits h) (option_copied query.entry) }
 {
     match query {
         Some(query) => asked_entries(alloc, stores, by, query, steps),
@@ -69,7 +73,8 @@ fn entries<L: Ledger>(
 }
 
 fn all_entries(alloc: Global, stores: &Stores, by: Browse) -> Result<Tags, AllocError>
-    ensures { IfOk result (λ tags. (h : List Entry) → AreHeld h stores.now → tags ≡ map value_tag (browse_values (all_edits h) by None)) }
+    ensures { IfOk result (λ tags. (h : List Entry) → AreHeld h stores.now
+        → tags ≡ map value_tag (browse_values (all_edits h) by None)) }
 {
     let texts = stores.index.values(by)?;
     text_tags(alloc, texts.as_slice())
@@ -108,8 +113,10 @@ fn asked_entries<L: Ledger>(
     query: &Query,
     steps: &mut Steps<L>,
 ) -> Result<Tags, AllocError>
-    ensures tags { IfOk result (λ tags. (h : List Entry) → AreHeld h stores.now → tags ≡ map value_tag (browse_values (all_edits h) by (Some query.now))) }
-    ensures cost { (h : List Entry) → AreHeld h stores.now → steps.new ≤ steps.old + value_ticks (all_edits h) (Some query.now) }
+    ensures tags { IfOk result (λ tags. (h : List Entry) → AreHeld h stores.now
+        → tags ≡ map value_tag (browse_values (all_edits h) by (Some query.now))) }
+    ensures cost { (h : List Entry) → AreHeld h stores.now
+        → steps.new ≤ steps.old + value_ticks (all_edits h) (Some query.now) }
 {
     let ids = ids_to_look_at(stores, query)?;
     let texts = asked_texts(alloc, &stores.items, ids.as_slice(), by, query, steps)?;
@@ -128,8 +135,10 @@ fn set_tags(alloc: Global, texts: &BTreeSet<&str>) -> Result<Tags, AllocError>
 
 // Returns the candidates of the query if the index has some; otherwise the ids of all items.
 fn ids_to_look_at(stores: &Stores, query: &Query) -> Result<Vec<u32>, AllocError>
-    ensures start { IfOk result (λ ids. (h : List Entry) → AreHeld h stores.now → AreCandidates (all_edits h) (Some query.now) ids.items) }
-    ensures few { IfOk result (λ ids. (h : List Entry) → AreHeld h stores.now → length ids.items ≡ value_ticks (all_edits h) (Some query.now)) }
+    ensures start { IfOk result (λ ids. (h : List Entry) → AreHeld h stores.now
+        → AreCandidates (all_edits h) (Some query.now) ids.items) }
+    ensures few { IfOk result (λ ids. (h : List Entry) → AreHeld h stores.now
+        → length ids.items ≡ value_ticks (all_edits h) (Some query.now)) }
 {
     match candidates(stores, Some(query))? {
         Some(ids) => Ok(ids),
@@ -178,7 +187,9 @@ fn put_asked<'a, L: Ledger>(
 
 // Adds a text unless it is empty or already in the set.
 fn put_text<'a>(texts: &mut BTreeSet<&'a str>, text: &'a str) -> Result<(), AllocError>
-    ensures { OnOk result (map text_at texts.new.keys ≡ fold (insert_key (slice_cmp nat_cmp)) (map text_at texts.old.keys) (filter is_filled (text.now ∷ []))) }
+    ensures { OnOk result (map text_at texts.new.keys
+        ≡ fold (insert_key (slice_cmp nat_cmp)) (map text_at texts.old.keys)
+        (filter is_filled (text.now ∷ []))) }
 {
     if is_filled(text) {
         texts.insert(text)?;

@@ -28,7 +28,8 @@ fn put(ids: &mut BTreeSet<u32>, id: u32) -> Result<(), AllocError>
 
 // Adds the id of the item that the edit puts or drops, if any.
 fn put_named(ids: &mut BTreeSet<u32>, edit: &Edit) -> Result<(), AllocError>
-    ensures { OnOk result (ids.new.keys ≡ fold (insert_key nat_cmp) ids.old.keys (items_in edit.now)) }
+    ensures { OnOk result (ids.new.keys
+        ≡ fold (insert_key nat_cmp) ids.old.keys (items_in edit.now)) }
 {
     match edit {
         Edit::PutItem { row } => put(ids, row.row().id),
@@ -66,7 +67,8 @@ fn rows_of(
     items: &ItemStore,
     ids: &BTreeSet<u32>,
 ) -> Result<Vec<(u32, Option<SharedRow>)>, AllocError>
-    ensures { IfOk result (λ rows. (bs : List (List Edit)) → StandsFor bs items.now → rows.items ≡ map (λ id. (id, item_at (edits bs) id)) ids.now.keys) }
+    ensures { IfOk result (λ rows. (bs : List (List Edit)) → StandsFor bs items.now
+        → rows.items ≡ map (λ id. (id, item_at (edits bs) id)) ids.now.keys) }
 {
     let mut rows = Vec::new(alloc);
     for id in ids {
@@ -80,7 +82,8 @@ fn push_row(
     items: &ItemStore,
     id: u32,
 ) -> Result<(), AllocError>
-    ensures { OnOk result ((bs : List (List Edit)) → StandsFor bs items.now → rows.new.items ≡ rows.old.items ++ (id, item_at (edits bs) id) ∷ []) }
+    ensures { OnOk result ((bs : List (List Edit)) → StandsFor bs items.now
+        → rows.new.items ≡ rows.old.items ++ (id, item_at (edits bs) id) ∷ []) }
 {
     rows.push((id, items.shared(id)?))?;
     Ok(())
@@ -133,7 +136,8 @@ fn push_change(
 ) -> Result<(), AllocError>
     ensures changes { OnOk result ((bs : List (List Edit)) → StandsFor bs items.now
         → changes.new.items ≡ changes.old.items ++ change_to (edits bs) before.now ∷ []) }
-    ensures short { OnOk result (AllByRecursion IsShortChange changes.old.items → AllByRecursion IsShortChange changes.new.items) }
+    ensures short { OnOk result (AllByRecursion IsShortChange changes.old.items
+        → AllByRecursion IsShortChange changes.new.items) }
 {
     let old = shared(&before.1)?;
     let new = short(items.shared(before.0)?);

@@ -34,7 +34,8 @@ pub(crate) fn databases(
 ) -> Result<ReplyContent, AllocError>
     requires name { length name.now ≤ text_limit }
     requires held { (h : List Entry) × AreHeld h stores.now }
-    ensures { IfOk result (λ content. (h : List Entry) → AreHeld h stores.now → IsContent (200, Tagged (databases_body name.now h)) content) }
+    ensures { IfOk result (λ content. (h : List Entry) → AreHeld h stores.now
+        → IsContent (200, Tagged (databases_body name.now h)) content) }
 {
     let containers = stores.lists.count();
     let items = stores.items.count();
@@ -51,7 +52,9 @@ fn database_entry(
     items: u32,
     containers: u32,
 ) -> Result<Tag, AllocError>
-    ensures { IfOk result (λ tag. tag ≡ entry_tag (leaf (code "miid") (U32 1) ∷ leaf (code "minm") (tree.Text name.now) ∷ leaf (code "mimc") (U32 items) ∷ leaf (code "mctc") (U32 containers) ∷ [])) }
+    ensures { IfOk result (λ tag. tag
+        ≡ entry_tag (leaf (code "miid") (U32 1) ∷ leaf (code "minm") (tree.Text name.now) ∷ leaf
+        (code "mimc") (U32 items) ∷ leaf (code "mctc") (U32 containers) ∷ [])) }
 {
     let name = text(alloc, Code(*b"minm"), name.as_str())?;
     let tags = Vec::from_array(
@@ -74,7 +77,8 @@ pub(crate) fn containers(
 ) -> Result<ReplyContent, AllocError>
     requires name { length name.now ≤ text_limit }
     requires held { (h : List Entry) × AreHeld h stores.now }
-    ensures { IfOk result (λ content. (h : List Entry) → AreHeld h stores.now → IsContent (200, Tagged (containers_body name.now h)) content) }
+    ensures { IfOk result (λ content. (h : List Entry) → AreHeld h stores.now
+        → IsContent (200, Tagged (containers_body name.now h)) content) }
 {
     let entries = entries(alloc, name, stores)?;
     let revision = stores.items.revision();
@@ -83,7 +87,8 @@ pub(crate) fn containers(
 
 fn entries(alloc: Global, name: &Text, stores: &Stores) -> Result<Tags, AllocError>
     requires held { (h : List Entry) × AreHeld h stores.now }
-    ensures { IfOk result (λ tags. (h : List Entry) → AreHeld h stores.now → tags ≡ container_tags name.now (all_edits h)) }
+    ensures { IfOk result (λ tags. (h : List Entry) → AreHeld h stores.now
+        → tags ≡ container_tags name.now (all_edits h)) }
 {
     let first = base_entry(alloc, name, stores)?;
     let ids = stores.lists.lists()?;
@@ -97,7 +102,8 @@ fn entries(alloc: Global, name: &Text, stores: &Stores) -> Result<Tags, AllocErr
 
 // The entry of container 1, which has all items.
 fn base_entry(alloc: Global, name: &Text, stores: &Stores) -> Result<Tag, AllocError>
-    ensures { IfOk result (λ tag. (h : List Entry) → AreHeld h stores.now → tag ≡ container_tag base_list name.now (leaf (code "abpl") (U8 1) ∷ []) (all_edits h)) }
+    ensures { IfOk result (λ tag. (h : List Entry) → AreHeld h stores.now
+        → tag ≡ container_tag base_list name.now (leaf (code "abpl") (U8 1) ∷ []) (all_edits h)) }
 {
     let count = stores.items.count();
     entry(alloc, BASE_LIST, name, Some(Code(*b"abpl")), count)
@@ -106,7 +112,8 @@ fn base_entry(alloc: Global, name: &Text, stores: &Stores) -> Result<Tag, AllocE
 // Appends the entry of list `id`, if it exists.
 fn push_list(tags: &mut Tags, alloc: Global, stores: &Stores, id: u32) -> Result<(), AllocError>
     requires held { (h : List Entry) × AreHeld h stores.now }
-    ensures { OnOk result ((h : List Entry) → AreHeld h stores.now → tags.new ≡ tags.old ++ option_to_list (entry_at (all_edits h) id)) }
+    ensures { OnOk result ((h : List Entry) → AreHeld h stores.now
+        → tags.new ≡ tags.old ++ option_to_list (entry_at (all_edits h) id)) }
 {
     if id == BASE_LIST {
         return Ok(());
@@ -128,7 +135,8 @@ fn list_entry(alloc: Global, id: u32, head: &ListHead, count: u32) -> Result<Tag
 
 // Returns the code of the tag that a list with a rule has.
 fn mark_of(head: &ListHead) -> Option<Code>
-    ensures { option_map (λ of. leaf of (U8 1)) result ≡ option_map (λ _. leaf (code "aeSP") (U8 1)) head.now.rule }
+    ensures { option_map (λ of. leaf of (U8 1)) result
+        ≡ option_map (λ _. leaf (code "aeSP") (U8 1)) head.now.rule }
 {
     match &head.rule {
         Some(_) => Some(Code(*b"aeSP")),
@@ -138,7 +146,8 @@ fn mark_of(head: &ListHead) -> Option<Code>
 
 // Appends the tag `mark` with the number 1, if there is one.
 fn push_mark(tags: &mut Tags, mark: Option<Code>) -> Result<(), AllocError>
-    ensures { OnOk result (tags.new ≡ tags.old ++ option_to_list (option_map (λ of. leaf of (U8 1)) mark)) }
+    ensures { OnOk result (tags.new
+        ≡ tags.old ++ option_to_list (option_map (λ of. leaf of (U8 1)) mark)) }
 {
     match mark {
         Some(of) => tags.push(small_number(of, 1)),
@@ -154,7 +163,10 @@ fn entry(
     mark: Option<Code>,
     count: u32,
 ) -> Result<Tag, AllocError>
-    ensures { IfOk result (λ tag. tag ≡ entry_tag (leaf (code "miid") (U32 id) ∷ leaf (code "minm") (tree.Text name.now) ∷ (option_to_list (option_map (λ of. leaf of (U8 1)) mark) ++ leaf (code "mimc") (U32 count) ∷ []))) }
+    ensures { IfOk result (λ tag. tag
+        ≡ entry_tag (leaf (code "miid") (U32 id) ∷ leaf (code "minm") (tree.Text name.now)
+        ∷ (option_to_list (option_map (λ of. leaf of (U8 1)) mark) ++ leaf (code "mimc")
+        (U32 count) ∷ []))) }
 {
     let name = text(alloc, Code(*b"minm"), name.as_str())?;
     let tags = Vec::from_array(alloc, [number(Code(*b"miid"), id), name])?;
@@ -168,7 +180,8 @@ fn entry(
 fn member_count(stores: &Stores, id: u32) -> Result<u32, AllocError>
     requires other { (id == base_list) ≡ false }
     requires held { (h : List Entry) × AreHeld h stores.now }
-    ensures { IfOk result (λ count. (h : List Entry) → AreHeld h stores.now → is_some (list_at (all_edits h) id) ≡ true
+    ensures { IfOk result (λ count. (h : List Entry) → AreHeld h stores.now
+        → is_some (list_at (all_edits h) id) ≡ true
         → count ≡ length (rows (all_edits h) (Container id) None)) }
 {
     let found = stores.lists.members(id, &stores.items)?;

@@ -32,8 +32,11 @@ pub(crate) fn candidates(
     stores: &Stores,
     query: Option<&Query>,
 ) -> Result<Option<Vec<u32>>, AllocError>
-    ensures start { IfOk result (λ found. (h : List Entry) → AreHeld h stores.now → StartFrom (all_edits h) (option_copied query.entry) (option_map (λ ids. ids.items) found)) }
-    ensures found { IfOk result (λ found. (h : List Entry) → AreHeld h stores.now → option_map (λ ids. ids.items) found ≡ starts (all_edits h) (option_copied query.entry)) }
+    ensures start { IfOk result (λ found. (h : List Entry) → AreHeld h stores.now
+        → StartFrom (all_edits h) (option_copied query.entry)
+        (option_map (λ ids. ids.items) found)) }
+    ensures found { IfOk result (λ found. (h : List Entry) → AreHeld h stores.now
+        → option_map (λ ids. ids.items) found ≡ starts (all_edits h) (option_copied query.entry)) }
 {
     match query {
         Some(query) => stores.index.candidates(query),
@@ -60,8 +63,10 @@ pub(crate) fn rows<L: Ledger>(
 ) -> Result<ReplyContent, AllocError>
     requires held { (h : List Entry) × AreHeld h stores.now }
     requires keep { stores.now.lists.keep ≡ stores.now.items.keep }
-    ensures content { IfOk result (λ content. (h : List Entry) → AreHeld h stores.now → IsContent (rows_content stores.now.items.keep h target look.now) content) }
-    ensures cost { (h : List Entry) → AreHeld h stores.now → steps.new ≤ steps.old + row_ticks stores.now.items.keep h target look.now }
+    ensures content { IfOk result (λ content. (h : List Entry) → AreHeld h stores.now
+        → IsContent (rows_content stores.now.items.keep h target look.now) content) }
+    ensures cost { (h : List Entry) → AreHeld h stores.now
+        → steps.new ≤ steps.old + row_ticks stores.now.items.keep h target look.now }
 {
     if !is_there(&stores.lists, target) {
         return Ok(nothing(404));
@@ -85,7 +90,8 @@ fn plan_listing<L: Ledger>(
     requires keep { stores.now.lists.keep ≡ stores.now.items.keep }
     ensures plan { IfOk result (λ plan. (h : List Entry) → AreHeld h stores.now
         → plan ≡ Rows (record { target = target; listing = listing stores.now.items.keep (batches h) target look.now })) }
-    ensures cost { (h : List Entry) → AreHeld h stores.now → steps.new ≤ steps.old + row_ticks stores.now.items.keep h target look.now }
+    ensures cost { (h : List Entry) → AreHeld h stores.now
+        → steps.new ≤ steps.old + row_ticks stores.now.items.keep h target look.now }
 {
     let found = candidates(stores, look.query.as_ref())?;
     let own = look.copy()?;

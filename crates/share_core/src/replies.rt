@@ -18,7 +18,8 @@ use std::alloc::AllocError;
 fn mark_of(register: &Register, session: u32) -> u64
     ensures mark { result ≡ mark_of register.now.marks session }
     ensures until { result ≤ length register.now.history }
-    ensures since { is_live register.now.history session ≡ true → length (until_login session register.now.history) ≤ result }
+    ensures since { is_live register.now.history session ≡ true
+        → length (until_login session register.now.history) ≤ result }
 {
     match register.seen(session) {
         Some(mark) => mark,
@@ -29,8 +30,15 @@ fn mark_of(register: &Register, session: u32) -> u64
 /// Returns a reply that adds no entry. Sets the last-answered length of its session.
 pub(crate) fn read(register: &mut Register, content: ReplyContent, session: u32) -> Reply
     ensures history { register.new.history ≡ register.old.history }
-    ensures marks { register.new.marks ≡ marks_after register.old.history session register.old.marks }
-    ensures reply { result ≡ record { content = content; point = length register.old.history; session = session; seen = mark_of register.old.marks session; added = false } }
+    ensures marks { register.new.marks
+        ≡ marks_after register.old.history session register.old.marks }
+    ensures reply { result ≡ record {
+      content = content;
+      point = length register.old.history;
+      session = session;
+      seen = mark_of register.old.marks session;
+      added = false;
+    } }
     ensures marked { IsBetween register.old.history result }
 {
     let seen = mark_of(register, session);
@@ -46,7 +54,14 @@ pub(crate) fn read(register: &mut Register, content: ReplyContent, session: u32)
 
 /// Returns a reply after the entry that it added. `seen` is the session's last-answered length before.
 fn reply_with_entry(register: &Register, content: ReplyContent, session: u32, seen: u64) -> Reply
-    ensures { result ≡ record { content = content; point = length register.now.history; session = session; seen = seen; added = true } }
+    ensures { result ≡ record {
+      content = content;
+      point = length register.now.history;
+      session
+          = session;
+      seen = seen;
+      added = true;
+    } }
 {
     Reply {
         content,
@@ -78,9 +93,19 @@ pub(crate) fn log_in(
     requires going { is_stopped register.old.history ≡ false }
     requires below { is_below_entry_limit register.old.history ≡ true }
     requires next { id ≡ next_session register.old.history }
-    ensures history { OnOk result (register.new.history ≡ register.old.history ++ entry.Login by id ∷ []) }
-    ensures marks { OnOk result (register.new.marks ≡ marks_after register.new.history id register.old.marks) }
-    ensures reply { IfOk result (λ reply. reply ≡ record { content = content; point = length register.new.history; session = id; seen = mark_of register.old.marks id; added = true }) }
+    ensures history { OnOk result
+        (register.new.history ≡ register.old.history ++ entry.Login by id ∷ []) }
+    ensures marks { OnOk result (register.new.marks
+        ≡ marks_after register.new.history id register.old.marks) }
+    ensures reply { IfOk result (λ reply. reply
+        ≡ record {
+          content = content;
+          point = length register.new.history;
+          session = id;
+          seen
+              = mark_of register.old.marks id;
+          added = true;
+        }) }
     ensures marked { IfOk result (IsBetween register.old.history) }
     ensures same_history { OnErr result (register.new.history ≡ register.old.history) }
     ensures same_marks { OnErr result (register.new.marks ≡ register.old.marks) }
@@ -96,7 +121,13 @@ pub(crate) fn log_out(register: &mut Register, by: u32, id: u32, content: ReplyC
     requires live { is_live register.old.history id ≡ true }
     ensures history { register.new.history ≡ register.old.history ++ entry.Logout by id ∷ [] }
     ensures marks { register.new.marks ≡ marks_after register.new.history id register.old.marks }
-    ensures reply { result ≡ record { content = content; point = length register.new.history; session = id; seen = mark_of register.old.marks id; added = true } }
+    ensures reply { result ≡ record {
+      content = content;
+      point = length register.new.history;
+      session = id;
+      seen = mark_of register.old.marks id;
+      added = true;
+    } }
     ensures marked { IsBetween register.old.history result }
 {
     let seen = mark_of(register, id);
@@ -109,7 +140,13 @@ pub(crate) fn end(register: &mut Register, by: u32, content: ReplyContent) -> Re
     requires going { is_stopped register.old.history ≡ false }
     ensures history { register.new.history ≡ register.old.history ++ entry.Stop by ∷ [] }
     ensures marks { register.new.marks ≡ marks_after register.new.history 0 register.old.marks }
-    ensures reply { result ≡ record { content = content; point = length register.new.history; session = 0; seen = mark_of register.old.marks 0; added = true } }
+    ensures reply { result ≡ record {
+      content = content;
+      point = length register.new.history;
+      session = 0;
+      seen = mark_of register.old.marks 0;
+      added = true;
+    } }
     ensures marked { IsBetween register.old.history result }
 {
     let seen = mark_of(register, 0);
@@ -126,7 +163,13 @@ pub(crate) fn enter(register: &mut Register, by: u32, batch: Batch, content: Rep
     requires room { length register.old.marks + 2 ≤ register.old.spare }
     ensures history { register.new.history ≡ register.old.history ++ entry.Edits by batch ∷ [] }
     ensures marks { register.new.marks ≡ marks_after register.new.history 0 register.old.marks }
-    ensures reply { result ≡ record { content = content; point = length register.new.history; session = 0; seen = mark_of register.old.marks 0; added = true } }
+    ensures reply { result ≡ record {
+      content = content;
+      point = length register.new.history;
+      session = 0;
+      seen = mark_of register.old.marks 0;
+      added = true;
+    } }
     ensures marked { IsBetween register.old.history result }
 {
     let seen = mark_of(register, 0);

@@ -117,7 +117,13 @@ impl Share {
         requires window { keep ≤ 65536 }
         requires few { length first ≤ most_edits }
         requires valid { AreValid first }
-        ensures opened { IfOk result (λ s. s ≡ record { settings = record { name = name.now; keep = keep }; history = opening first; marks = [] }) }
+        ensures opened { IfOk result
+            (λ s. s ≡ record {
+              settings = record { name = name.now; keep = keep };
+              history = opening
+                  first;
+              marks = [];
+            }) }
         ensures fits { OnOk result (has_few_lists [] first ≡ true) }
         ensures lists { result ≡ Err OpenError.Lists → has_few_lists [] first ≡ false }
         ensures edits { result ≢ Err OpenError.Edits }
@@ -143,7 +149,13 @@ impl Share {
         requires window { keep ≤ 65536 }
         requires filled { All (λ batch. batch ≢ []) batches.items }
         requires valid { All AreValid batches.items }
-        ensures opened { IfOk result (λ s. s ≡ record { settings = record { name = name.now; keep = keep }; history = opened_with batches.items; marks = [] }) }
+        ensures opened { IfOk result
+            (λ s. s ≡ record {
+              settings = record { name = name.now; keep = keep };
+              history
+                  = opened_with batches.items;
+              marks = [];
+            }) }
         ensures edits { result ≡ Err OpenError.Edits ↔ (most_edits < length (edits batches.items)) }
         ensures fits { OnOk result (LeaveFewLists batches.items) }
         ensures lists { result ≡ Err OpenError.Lists → LeaveManyLists batches.items }
@@ -160,7 +172,12 @@ impl Share {
         requires name { length name.now ≤ text_limit }
         requires some { 1 ≤ keep }
         requires window { keep ≤ 65536 }
-        ensures { IfOk result (λ s. s ≡ record { settings = record { name = name.now; keep = keep }; history = []; marks = [] }) }
+        ensures { IfOk result (λ s. s
+            ≡ record {
+              settings = record { name = name.now; keep = keep };
+              history = [];
+              marks = [];
+            }) }
     {
         let name = Text::of(alloc, name)?;
         let none = Batch {
@@ -191,9 +208,11 @@ impl Share {
         ensures answered { IfOk result (IsAnswer self.old self.new by ask.now.want) }
         ensures unchanged { OnErr result (self.new ≡ self.old) }
         // A logout and the stop always have capacity.
-        ensures free { is_stopped self.old.history ≡ false → is_free ask.now.want ≡ true → IsOk result }
+        ensures free { is_stopped self.old.history ≡ false → is_free ask.now.want ≡ true
+            → IsOk result }
         ensures marked { IfOk result (IsMarked self.old.history) }
-        ensures cost { steps.new ≤ steps.old + want_ticks self.old.settings.keep self.old.history ask.now.want }
+        ensures cost { steps.new ≤ steps.old
+            + want_ticks self.old.settings.keep self.old.history ask.now.want }
     {
         // The order of `refusal`, except that `content_for` answers a malformed request, and after the session. A
         // malformed request names no session, so it never gets 403, and the first refusal stays the same.
@@ -267,7 +286,8 @@ impl Share {
 
     // Returns a reply that adds no entry.
     fn read(&mut self, content: ReplyContent, session: u32) -> Reply
-        ensures read { (told : ℕ × Body) → IsContent told content → IsRead told session self.old self.new result }
+        ensures read { (told : ℕ × Body) → IsContent told content
+            → IsRead told session self.old self.new result }
         ensures marked { IsBetween self.old.history result }
     {
         read(&mut self.register, content, session)
@@ -296,7 +316,8 @@ impl Share {
         ensures unchanged { OnErr result (self.new ≡ self.old) }
         ensures marked { IfOk result (IsMarked self.old.history) }
         ensures free { is_free want.now ≡ true → IsOk result }
-        ensures cost { steps.new ≤ steps.old + want_ticks self.old.settings.keep self.old.history want.now }
+        ensures cost { steps.new ≤ steps.old
+            + want_ticks self.old.settings.keep self.old.history want.now }
     {
         match want {
             Want::Login => self.login(by),
@@ -336,7 +357,8 @@ impl Share {
     fn update(&mut self, by: u32, session: u32, number: u32) -> Result<Answer, AllocError>
         requires going { is_stopped self.old.history ≡ false }
         requires live { is_live self.old.history session ≡ true }
-        ensures answered { IfOk result (IsAnswer self.old self.new by (want.Update session number)) }
+        ensures answered { IfOk result
+            (IsAnswer self.old self.new by (want.Update session number)) }
         ensures unchanged { OnErr result (self.new ≡ self.old) }
         ensures marked { IfOk result (IsMarked self.old.history) }
     {
@@ -378,7 +400,8 @@ impl Share {
         ensures answered { IfOk result (IsAnswer self.old self.new by (want.Edit (Ok batch.now))) }
         ensures unchanged { OnErr result (self.new ≡ self.old) }
         ensures marked { IfOk result (IsMarked self.old.history) }
-        ensures cost { steps.new ≤ steps.old + tests_of (all_edits self.old.history ++ batch.now) batch.now }
+        ensures cost { steps.new ≤ steps.old + tests_of
+            (all_edits self.old.history ++ batch.now) batch.now }
     {
         let count = count_of(batch);
         if count == 0 {
@@ -415,9 +438,16 @@ impl Share {
         requires valid { AreValid batch }
         requires below { is_below_entry_limit self.old.history ≡ true }
         requires room { has_room_for self.old.history (length batch) ≡ true }
-        ensures grown { OnOk result (self.new ≡ record { settings = self.old.settings; history = self.old.history ++ entry.Edits 0 batch ∷ []; marks = self.old.marks }) }
+        ensures grown { OnOk result (self.new
+            ≡ record {
+              settings = self.old.settings;
+              history = self.old.history
+                  ++ entry.Edits 0 batch ∷ [];
+              marks = self.old.marks;
+            }) }
         ensures fits { OnOk result (has_few_lists self.old.history batch ≡ true) }
-        ensures lists { result ≡ Err OpenError.Lists → has_few_lists self.old.history batch ≡ false }
+        ensures lists { result ≡ Err OpenError.Lists
+            → has_few_lists self.old.history batch ≡ false }
         ensures edits { result ≢ Err OpenError.Edits }
     {
         let edits = batch.edits.as_slice();
@@ -444,10 +474,12 @@ impl Share {
         requires going { is_stopped self.old.history ≡ false }
         requires valid { AreValid batch.now }
         requires takes { takes_batch self.old.history batch.now ≡ true }
-        ensures grown { IfOk result (λ reply. (told : ℕ × Body) → IsContent told content → HasGrown told 0 (entry.Edits by batch.now) self.old self.new reply) }
+        ensures grown { IfOk result (λ reply. (told : ℕ × Body) → IsContent told content
+            → HasGrown told 0 (entry.Edits by batch.now) self.old self.new reply) }
         ensures unchanged { OnErr result (self.new ≡ self.old) }
         ensures marked { IfOk result (IsBetween self.old.history) }
-        ensures cost { steps.new ≤ steps.old + tests_of (all_edits self.old.history ++ batch.now) batch.now }
+        ensures cost { steps.new ≤ steps.old + tests_of
+            (all_edits self.old.history ++ batch.now) batch.now }
     {
         let own = batch.copy()?;
         let next = self.register.revision() + 1;
@@ -470,7 +502,8 @@ impl Share {
         ensures answered { IfOk result (IsAnswer self.old self.new by want.now) }
         ensures unchanged { OnErr result (self.new ≡ self.old) }
         ensures marked { IfOk result (IsMarked self.old.history) }
-        ensures cost { steps.new ≤ steps.old + want_ticks self.old.settings.keep self.old.history want.now }
+        ensures cost { steps.new ≤ steps.old
+            + want_ticks self.old.settings.keep self.old.history want.now }
     {
         let content = self.content_for(want, steps)?;
         let session = session_in(want).unwrap_or(0);
@@ -486,8 +519,11 @@ impl Share {
         requires read { is_read want.now ≡ true }
         requires going { is_stopped self.now.history ≡ false }
         requires live { lacks_session self.now.history want.now ≡ false }
-        ensures content { IfOk result (λ content. IsContent (unwrap_or (refusal self.now.history want.now) (success self.now.settings self.now.history want.now)) content) }
-        ensures cost { steps.new ≤ steps.old + want_ticks self.now.settings.keep self.now.history want.now }
+        ensures content { IfOk result
+            (λ content. IsContent (unwrap_or (refusal self.now.history want.now)
+            (success self.now.settings self.now.history want.now)) content) }
+        ensures cost { steps.new ≤ steps.old
+            + want_ticks self.now.settings.keep self.now.history want.now }
     {
         let name = self.settings.name();
         match want {
@@ -566,7 +602,13 @@ fn begun<L: Ledger>(blank: Blank, empty: Share, batches: Vec<Batch>) -> Result<S
     requires filled { All (λ batch. batch ≢ []) batches.items }
     requires valid { All AreValid batches.items }
     requires few { length (edits batches.items) ≤ most_edits }
-    ensures opened { IfOk result (λ s. s ≡ record { settings = empty.settings; history = opened_with batches.items; marks = empty.marks }) }
+    ensures opened { IfOk result
+        (λ s. s ≡ record {
+          settings = empty.settings;
+          history = opened_with batches.items;
+          marks
+              = empty.marks;
+        }) }
     ensures fits { OnOk result (LeaveFewLists batches.items) }
     ensures lists { result ≡ Err OpenError.Lists → LeaveManyLists batches.items }
     ensures edits { result ≢ Err OpenError.Edits }
@@ -587,7 +629,12 @@ fn begin_all<L: Ledger>(
     requires filled { All (λ batch. batch ≢ []) batches.items }
     requires valid { All AreValid batches.items }
     requires few { length (edits batches.items) ≤ most_edits }
-    ensures opened { OnOk result (share.new ≡ record { settings = share.old.settings; history = opened_with batches.items; marks = share.old.marks }) }
+    ensures opened { OnOk result
+        (share.new ≡ record {
+          settings = share.old.settings;
+          history = opened_with batches.items;
+          marks = share.old.marks;
+        }) }
     ensures fits { OnOk result (LeaveFewLists batches.items) }
     ensures lists { result ≡ Err OpenError.Lists → LeaveManyLists batches.items }
     ensures edits { result ≢ Err OpenError.Edits }

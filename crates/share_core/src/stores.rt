@@ -60,11 +60,14 @@ impl Stores {
     ) -> Result<(), AllocError>
         requires stand { (bs : List (List Edit)) × StandFor bs self.old × (next ≡ revision bs + 1) }
         requires valid { AreValid batch.now }
-        ensures stand { OnOk result ((bs : List (List Edit)) → StandFor bs self.old → StandFor (bs ++ batch.now ∷ []) self.new) }
-        ensures unchanged { OnErr result ((bs : List (List Edit)) → StandFor bs self.old → StandFor bs self.new) }
+        ensures stand { OnOk result ((bs : List (List Edit)) → StandFor bs self.old
+            → StandFor (bs ++ batch.now ∷ []) self.new) }
+        ensures unchanged { OnErr result ((bs : List (List Edit)) → StandFor bs self.old
+            → StandFor bs self.new) }
         ensures items_keep { self.new.items.keep ≡ self.old.items.keep }
         ensures lists_keep { self.new.lists.keep ≡ self.old.lists.keep }
-        ensures cost { (bs : List (List Edit)) → StandFor bs self.old → steps.new ≤ steps.old + tests_of (edits (bs ++ batch.now ∷ [])) batch.now }
+        ensures cost { (bs : List (List Edit)) → StandFor bs self.old
+            → steps.new ≤ steps.old + tests_of (edits (bs ++ batch.now ∷ [])) batch.now }
     {
         let before = rows_before(alloc, &self.items, batch)?;
         self.items.apply(batch, next)?;
@@ -90,10 +93,14 @@ impl Stores {
         requires next { next ≡ self.old.lists.revision + 1 }
         requires valid { AreValid batch.now }
         ensures items { self.new.items ≡ self.old.items }
-        ensures stand { OnOk result ((bs : List (List Edit)) → CanFollow bs batch.now before.now self.old → StandFor (bs ++ batch.now ∷ []) self.new) }
-        ensures unchanged { OnErr result ((bs : List (List Edit)) → CanFollow bs batch.now before.now self.old → IsAsBefore bs self.new) }
+        ensures stand { OnOk result ((bs : List (List Edit))
+            → CanFollow bs batch.now before.now self.old
+            → StandFor (bs ++ batch.now ∷ []) self.new) }
+        ensures unchanged { OnErr result ((bs : List (List Edit))
+            → CanFollow bs batch.now before.now self.old → IsAsBefore bs self.new) }
         ensures keep { self.new.lists.keep ≡ self.old.lists.keep }
-        ensures cost { (bs : List (List Edit)) → CanFollow bs batch.now before.now self.old → steps.new ≤ steps.old + tests_of (edits (bs ++ batch.now ∷ [])) batch.now }
+        ensures cost { (bs : List (List Edit)) → CanFollow bs batch.now before.now self.old
+            → steps.new ≤ steps.old + tests_of (edits (bs ++ batch.now ∷ [])) batch.now }
     {
         let changes = changes_to(alloc, &self.items, before)?;
         self.lists.apply(batch, next, &self.items, steps)?;

@@ -77,7 +77,8 @@ pub(crate) fn whole(
 ) -> Result<ReplyContent, AllocError>
     requires few { length entries ≤ entries_limit }
     requires short { AreShort entries }
-    ensures { IfOk result (λ content. IsContent (200, Tagged (whole_body of entries_of revision entries)) content) }
+    ensures { IfOk result (λ content. IsContent
+        (200, Tagged (whole_body of entries_of revision entries)) content) }
 {
     let count = entries.as_slice().len() as u32;
     let mut tags = start(alloc, revision, count)?;

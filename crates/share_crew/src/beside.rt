@@ -49,8 +49,14 @@ pub fn work_beside<D: Listener + Drop + Send, P: Partner, R: Threads + Wait + Cl
     ensures partner { P.worked (lock_id lock.now) partner.old partner.new }
 {
     let mut all = ||
-        requires { IsSync R.row × All (λ w. IsReady (lock_id lock.now) w.pass) crew.now.items × All (λ w. w.end ≡ WorkerEnd.Running) crew.now.items × All (λ w. w.reports.items ≡ []) crew.now.items }
-        ensures { All (λ w. IsReady (lock_id lock.entry.now) w.pass) crew.exit.now.items × AllZip (λ old new. new.role ≡ old.role) crew.entry.now.items crew.exit.now.items × AllZip (HasEnded D.coming D.written D.faults) crew.entry.now.items crew.exit.now.items × All (λ w. is_worker_loss w.end ≡ false) crew.exit.now.items × (vec_capacity crew.exit.now ≡ vec_capacity crew.entry.now) }
+        requires { IsSync R.row × All (λ w. IsReady (lock_id lock.now) w.pass) crew.now.items
+            × All (λ w. w.end ≡ WorkerEnd.Running) crew.now.items
+            × All (λ w. w.reports.items ≡ []) crew.now.items }
+        ensures { All (λ w. IsReady (lock_id lock.entry.now) w.pass) crew.exit.now.items
+            × AllZip (λ old new. new.role ≡ old.role) crew.entry.now.items crew.exit.now.items
+            × AllZip (HasEnded D.coming D.written D.faults) crew.entry.now.items crew.exit.now.items
+            × All (λ w. is_worker_loss w.end ≡ false) crew.exit.now.items
+            × (vec_capacity crew.exit.now ≡ vec_capacity crew.entry.now) }
     { serve_all(rt, alloc, lock, bell, crew) };
     join_mut(rt, &mut all, &mut || partner.work(rt, alloc, lock, bell));
 }
@@ -81,15 +87,30 @@ pub fn keep_beside<D: Listener + Drop + Send, F: Keeps, R: Threads + Wait + Cloc
     ensures keeper_ready { IsReady (lock_id lock.now) worker.new.pass }
     ensures keeper_role { worker.new.role ≡ worker.old.role }
     ensures keeper_served { HasEnded D.coming D.written D.faults worker.old worker.new }
-    ensures keeping { Keeping (F.keeps keeper.old) (F.keeps keeper.new) (F.is_lost keeper.new) (F.faults keeper.old) (F.faults keeper.new) (known worker.old.pass) (known worker.new.pass) (is_worker_loss worker.new.end) }
+    ensures keeping { Keeping (F.keeps keeper.old) (F.keeps keeper.new) (F.is_lost keeper.new)
+        (F.faults keeper.old) (F.faults keeper.new) (known worker.old.pass) (known worker.new.pass)
+        (is_worker_loss worker.new.end) }
 {
     let mut all = ||
-        requires { IsSync R.row × All (λ w. IsReady (lock_id lock.now) w.pass) crew.now.items × All (λ w. w.end ≡ WorkerEnd.Running) crew.now.items × All (λ w. w.reports.items ≡ []) crew.now.items }
-        ensures { All (λ w. IsReady (lock_id lock.entry.now) w.pass) crew.exit.now.items × AllZip (λ old new. new.role ≡ old.role) crew.entry.now.items crew.exit.now.items × AllZip (HasEnded D.coming D.written D.faults) crew.entry.now.items crew.exit.now.items × All (λ w. is_worker_loss w.end ≡ false) crew.exit.now.items × (vec_capacity crew.exit.now ≡ vec_capacity crew.entry.now) }
+        requires { IsSync R.row × All (λ w. IsReady (lock_id lock.now) w.pass) crew.now.items
+            × All (λ w. w.end ≡ WorkerEnd.Running) crew.now.items
+            × All (λ w. w.reports.items ≡ []) crew.now.items }
+        ensures { All (λ w. IsReady (lock_id lock.entry.now) w.pass) crew.exit.now.items
+            × AllZip (λ old new. new.role ≡ old.role) crew.entry.now.items crew.exit.now.items
+            × AllZip (HasEnded D.coming D.written D.faults) crew.entry.now.items crew.exit.now.items
+            × All (λ w. is_worker_loss w.end ≡ false) crew.exit.now.items
+            × (vec_capacity crew.exit.now ≡ vec_capacity crew.entry.now) }
     { serve_all(rt, alloc, lock, bell, crew) };
     let mut kept = ||
-        requires { IsReady (lock_id lock.now) worker.now.pass × (worker.now.end ≡ WorkerEnd.Running) × (worker.now.reports.items ≡ []) × (F.is_lost keeper.now ≡ false) }
-        ensures { IsReady (lock_id lock.entry.now) worker.exit.now.pass × (worker.exit.now.role ≡ worker.entry.now.role) × HasEnded D.coming D.written D.faults worker.entry.now worker.exit.now × Keeping (F.keeps keeper.entry.now) (F.keeps keeper.exit.now) (F.is_lost keeper.exit.now) (F.faults keeper.entry.now) (F.faults keeper.exit.now) (known worker.entry.now.pass) (known worker.exit.now.pass) (is_worker_loss worker.exit.now.end) }
+        requires { IsReady (lock_id lock.now) worker.now.pass × (worker.now.end ≡ WorkerEnd.Running)
+            × (worker.now.reports.items ≡ []) × (F.is_lost keeper.now ≡ false) }
+        ensures { IsReady (lock_id lock.entry.now) worker.exit.now.pass
+            × (worker.exit.now.role ≡ worker.entry.now.role)
+            × HasEnded D.coming D.written D.faults worker.entry.now worker.exit.now
+            × Keeping (F.keeps keeper.entry.now) (F.keeps keeper.exit.now)
+            (F.is_lost keeper.exit.now) (F.faults keeper.entry.now) (F.faults keeper.exit.now)
+            (known worker.entry.now.pass) (known worker.exit.now.pass)
+            (is_worker_loss worker.exit.now.end) }
     { keep_worker(rt, alloc, lock, bell, worker, keeper) };
     join_mut(rt, &mut all, &mut kept);
 }

@@ -44,7 +44,8 @@ pub fn gather<N: Net>(net: &mut N, begun: LockedShare<N::D>) -> Gathered
     requires room { vec_len begun.room.crew ≤ vec_capacity begun.room.links }
     ensures lock { lock_id result.lock ≡ lock_id begun.lock }
     ensures ready { IsReady (lock_id result.lock) result.first }
-    ensures gathered { (settings : Settings) (opening : List Entry) (kept : Option (List Returned)) (before : List (Member N.D))
+    ensures gathered { (settings : Settings) (opening : List Entry) (kept : Option (List Returned))
+        (before : List (Member N.D))
         → known begun.first ≡ fresh 0 settings opening → All (IsHired (lock_id begun.lock) (known begun.first)) before
         → AreNew N.D.written N.D.faults kept (map (λ w. w.listener) before)
         → AllZip (HasEnded N.D.coming N.D.written N.D.faults) before begun.room.crew.items
@@ -54,9 +55,11 @@ pub fn gather<N: Net>(net: &mut N, begun: LockedShare<N::D>) -> Gathered
         × AllZip (IsOf N.D.written N.D.faults) g.crew begun.room.crew.items }
     ensures asked { N.asked net.new ≡ N.asked net.old }
     ensures closes { N.open_count net.new ≡ N.open_count net.old - length begun.room.crew.items }
-    ensures links { (before : List (Member N.D)) → AllZip (HasEnded N.D.coming N.D.written N.D.faults) before begun.room.crew.items
+    ensures links { (before : List (Member N.D))
+        → AllZip (HasEnded N.D.coming N.D.written N.D.faults) before begun.room.crew.items
         → length before ≤ 72 → links_in result.links < 2 ^ 64 }
-    ensures requests { (before : List (Member N.D)) → AllZip (HasEnded N.D.coming N.D.written N.D.faults) before begun.room.crew.items
+    ensures requests { (before : List (Member N.D))
+        → AllZip (HasEnded N.D.coming N.D.written N.D.faults) before begun.room.crew.items
         → length before ≤ 72 → requests_in result.links < 2 ^ 64 }
 {
     let LockedShare {
@@ -86,14 +89,17 @@ fn join_each<N: Net>(
     requires crew { All (λ w. IsReady (lock_id lock.now) w.pass) crew.items }
     requires room { vec_len links.old + vec_len crew ≤ vec_capacity links.old }
     ensures ready { IsReady (lock_id lock.now) first.new }
-    ensures joined { (settings : Settings) (opening : List Entry) (stints : List (Stint settings opening))
+    ensures joined { (settings : Settings) (opening : List Entry)
+        (stints : List (Stint settings opening))
         → AllZip (IsOf N.D.written N.D.faults) stints crew.items → HasJoined (known first.old) (known first.new) (passes_in stints) }
-    ensures shut { (settings : Settings) (opening : List Entry) (stints : List (Stint settings opening))
+    ensures shut { (settings : Settings) (opening : List Entry)
+        (stints : List (Stint settings opening))
         → AllZip (IsOf N.D.written N.D.faults) stints crew.items
         → HasShut (N.written net.old) (N.written net.new) (N.faults net.old) (N.faults net.new) stints }
     ensures asked { N.asked net.new ≡ N.asked net.old }
     ensures closes { N.open_count net.new ≡ N.open_count net.old - length crew.items }
-    ensures links { map (λ l. l.items) links.new.items ≡ map (λ l. l.items) links.old.items ++ map (λ w. w.reports.items) crew.items }
+    ensures links { map (λ l. l.items) links.new.items
+        ≡ map (λ l. l.items) links.old.items ++ map (λ w. w.reports.items) crew.items }
 {
     for worker in crew {
         let Worker {
@@ -112,7 +118,8 @@ fn join_each<N: Net>(
 /// Takes the share out of its lock, in a last turn of the handle to which all others were joined.
 pub fn share_of<R: Wait>(rt: &R, lock: &ShareLock<Share>, first: &mut Pass<Share>) -> Share
     requires ready { IsReady (lock_id lock.now) first.old }
-    ensures { (settings : Settings) (opening : List Entry) (stints : List (Stint settings opening)) (others : List Seen)
+    ensures { (settings : Settings) (opening : List Entry) (stints : List (Stint settings opening))
+        (others : List Seen)
         → All (λ e. maker e ≡ 0) opening → HasJoined (fresh 0 settings opening) (known first.old) (passes_in stints ++ others)
         → AllByRecursion (IsNumbered (passes_of lock.now)) (passes_in stints ++ others)
         → passes_of lock.now ≡ length (passes_in stints ++ others) + 1

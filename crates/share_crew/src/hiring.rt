@@ -26,7 +26,8 @@ pub fn add_workers<D: Drop, R: Wait>(
     requires room { vec_len crew.old + vec_len listeners ≤ vec_capacity crew.old }
     ensures ready { IsReady (lock_id lock.now) first.new }
     ensures pass { known first.new ≡ known first.old }
-    ensures hired { HasHired (lock_id lock.now) (known first.old) role listeners.items crew.old.items crew.new.items }
+    ensures hired { HasHired (lock_id lock.now)
+        (known first.old) role listeners.items crew.old.items crew.new.items }
     ensures len { vec_len crew.new ≡ vec_len crew.old + vec_len listeners }
     ensures room { vec_capacity crew.new ≡ vec_capacity crew.old }
 {
@@ -42,7 +43,8 @@ fn new_pass<R: Wait>(rt: &R, lock: &ShareLock<Share>, first: &mut Pass<Share>) -
     ensures first { IsReady (lock_id lock.now) first.new }
     ensures same { known first.new ≡ known first.old }
     ensures ready { IsReady (lock_id lock.now) result }
-    ensures pass { known result ≡ fresh (known result).number (known first.old).settings (known first.old).seen }
+    ensures pass { known result ≡ fresh (known result).number (known first.old).settings
+        (known first.old).seen }
     ensures some { 1 ≤ (known result).number }
     ensures few { (known result).number < passes_of lock.now }
 {

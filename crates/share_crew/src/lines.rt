@@ -20,7 +20,8 @@ pub fn ended_line_of(
 ) -> Result<Vec<u8>, AllocError>
     requires links { links_in (map (λ l. l.items) workers.now) < 2 ^ 64 }
     requires requests { requests_in (map (λ l. l.items) workers.now) < 2 ^ 64 }
-    ensures { IfOk result (λ line. line.items ≡ ended_line revision (map (λ l. l.items) workers.now)) }
+    ensures { IfOk result (λ line. line.items
+        ≡ ended_line revision (map (λ l. l.items) workers.now)) }
 {
     let mut line = Vec::new(alloc);
     push_number(&mut line, b"ended at revision ", u64::from(revision))?;

@@ -38,10 +38,13 @@ pub fn listing<L: Ledger>(
     steps: &mut Steps<L>,
 ) -> Result<Plan, AllocError>
     requires few { HaveFew items.now lists.now }
-    requires start { (bs : List (List Edit)) → StandsFor bs items.now → StartFrom (edits bs) look.query (option_copied candidates) }
-    ensures listing { IfOk result (λ plan. (bs : List (List Edit)) → StandsFor bs items.now → lists_stand.StandsFor bs lists.now
+    requires start { (bs : List (List Edit)) → StandsFor bs items.now
+        → StartFrom (edits bs) look.query (option_copied candidates) }
+    ensures listing { IfOk result (λ plan. (bs : List (List Edit)) → StandsFor bs items.now
+        → lists_stand.StandsFor bs lists.now
         → plan ≡ Rows (record { target = target; listing = listing items.now.keep bs target look })) }
-    ensures cost { (bs : List (List Edit)) → StandsFor bs items.now → lists_stand.StandsFor bs lists.now
+    ensures cost { (bs : List (List Edit)) → StandsFor bs items.now
+        → lists_stand.StandsFor bs lists.now
         → steps.new ≤ steps.old + most_ticks items.now.keep bs target look.base (option_copied candidates.entry) }
 {
     let membership = membership_of(target, lists);
@@ -59,10 +62,13 @@ pub fn full_listing<L: Ledger>(
     steps: &mut Steps<L>,
 ) -> Result<Plan, AllocError>
     requires few { HaveFew items.now lists.now }
-    requires start { (bs : List (List Edit)) → StandsFor bs items.now → StartFrom (edits bs) look.query (option_copied candidates) }
-    ensures listing { IfOk result (λ plan. (bs : List (List Edit)) → StandsFor bs items.now → lists_stand.StandsFor bs lists.now
+    requires start { (bs : List (List Edit)) → StandsFor bs items.now
+        → StartFrom (edits bs) look.query (option_copied candidates) }
+    ensures listing { IfOk result (λ plan. (bs : List (List Edit)) → StandsFor bs items.now
+        → lists_stand.StandsFor bs lists.now
         → plan ≡ Rows (record { target = target; listing = full_listing bs target look })) }
-    ensures cost { (bs : List (List Edit)) → StandsFor bs items.now → lists_stand.StandsFor bs lists.now
+    ensures cost { (bs : List (List Edit)) → StandsFor bs items.now
+        → lists_stand.StandsFor bs lists.now
         → steps.new ≤ steps.old + looked_at (edits bs) target (option_copied candidates.entry) }
 {
     let membership = membership_of(target, lists);
@@ -80,8 +86,10 @@ pub(crate) fn answer<L: Ledger>(
     steps: &mut Steps<L>,
 ) -> Result<Plan, AllocError>
     requires few { TellsFew items.now target membership }
-    requires start { (bs : List (List Edit)) → StandsFor bs items.now → StartFrom (edits bs) look.query (option_copied candidates) }
-    ensures listing { IfOk result (λ plan. (bs : List (List Edit)) → Tells bs items.now target membership.entry
+    requires start { (bs : List (List Edit)) → StandsFor bs items.now
+        → StartFrom (edits bs) look.query (option_copied candidates) }
+    ensures listing { IfOk result (λ plan. (bs : List (List Edit))
+        → Tells bs items.now target membership.entry
         → plan ≡ Rows (record { target = target; listing = listing items.now.keep bs target look })) }
     ensures cost { (bs : List (List Edit)) → Tells bs items.now target membership.entry
         → steps.new ≤ steps.old + most_ticks items.now.keep bs target look.base (option_copied candidates.entry) }
@@ -103,12 +111,15 @@ fn delta<L: Ledger>(
     steps: &mut Steps<L>,
 ) -> Result<Plan, AllocError>
     requires few { TellsFew items.now target membership }
-    requires kept { (bs : List (List Edit)) → Tells bs items.now target membership → is_kept items.now.keep bs target look.base ≡ true }
+    requires kept { (bs : List (List Edit)) → Tells bs items.now target membership
+        → is_kept items.now.keep bs target look.base ≡ true }
     requires from { floor_of items.now.keep items.now.revision ≤ look.base }
     requires to { look.base ≤ items.now.revision }
-    ensures listing { IfOk result (λ plan. (bs : List (List Edit)) → Tells bs items.now target membership.entry
+    ensures listing { IfOk result (λ plan. (bs : List (List Edit))
+        → Tells bs items.now target membership.entry
         → plan ≡ Rows (record { target = target; listing = delta_listing bs target look look.base })) }
-    ensures cost { (bs : List (List Edit)) → Tells bs items.now target membership.entry → steps.new ≤ steps.old + 4 * length (touched bs target look.base) }
+    ensures cost { (bs : List (List Edit)) → Tells bs items.now target membership.entry
+        → steps.new ≤ steps.old + 4 * length (touched bs target look.base) }
 {
     let changed = changed_since(alloc, items, membership, target, &look, steps)?;
     Ok(delta_plan(target, items.revision(), look, changed))
@@ -126,11 +137,14 @@ fn changed_since<L: Ledger>(
     requires few { TellsFew items.now target membership }
     requires from { floor_of items.now.keep items.now.revision ≤ look.now.base }
     requires to { look.now.base ≤ items.now.revision }
-    ensures rows { IfOk result (λ changed. (bs : List (List Edit)) → TellsSince bs items.now target membership.entry look.now.base
+    ensures rows { IfOk result (λ changed. (bs : List (List Edit))
+        → TellsSince bs items.now target membership.entry look.now.base
         → keyed changed.rows.items ≡ pairs_at (listed_at bs target look.now) (touched bs target look.now.base)) }
-    ensures gone { IfOk result (λ changed. (bs : List (List Edit)) → TellsSince bs items.now target membership.entry look.now.base
+    ensures gone { IfOk result (λ changed. (bs : List (List Edit))
+        → TellsSince bs items.now target membership.entry look.now.base
         → changed.gone.items ≡ filter (is_deleted bs target look.now) (touched bs target look.now.base)) }
-    ensures members { IfOk result (λ changed. AllOf (λ row. row.member ≡ member_of target (key_of row)) changed.rows.items) }
+    ensures members { IfOk result
+        (λ changed. AllOf (λ row. row.member ≡ member_of target (key_of row)) changed.rows.items) }
     ensures cost { (bs : List (List Edit)) → Tells bs items.now target membership.entry
         → steps.new ≤ steps.old + 2 * length (touched bs target look.now.base) }
 {

@@ -32,9 +32,11 @@ pub(crate) fn rows_at<L: Ledger>(
     steps: &mut Steps<L>,
 ) -> Result<Vec<PlanRow>, AllocError>
     requires { IsBeside membership }
-    ensures rows { IfOk result (λ found. (bs : List (List Edit)) → Tells bs items.now target membership.entry
+    ensures rows { IfOk result (λ found. (bs : List (List Edit))
+        → Tells bs items.now target membership.entry
         → keyed found.items ≡ pairs_at (row_at (edits bs) target (option_copied query.entry)) keys.now) }
-    ensures members { IfOk result (λ found. AllOf (λ row. row.member ≡ member_of target (key_of row)) found.items) }
+    ensures members { IfOk result
+        (λ found. AllOf (λ row. row.member ≡ member_of target (key_of row)) found.items) }
     ensures cost { steps.new ≤ steps.old + length keys.now }
 {
     let mut rows = Vec::new(alloc);
@@ -53,9 +55,11 @@ pub(crate) fn rows_of<L: Ledger>(
     query: Option<&Query>,
     steps: &mut Steps<L>,
 ) -> Result<Vec<PlanRow>, AllocError>
-    ensures rows { IfOk result (λ found. (bs : List (List Edit)) → StandsFor bs items.now → AreMembersOf (edits bs) target members.now
+    ensures rows { IfOk result (λ found. (bs : List (List Edit)) → StandsFor bs items.now
+        → AreMembersOf (edits bs) target members.now
         → keyed found.items ≡ pairs_at (row_at (edits bs) target (option_copied query.entry)) (map (λ member. member.key) members.now)) }
-    ensures members { IfOk result (λ found. AllOf (λ row. row.member ≡ member_of target (key_of row)) found.items) }
+    ensures members { IfOk result
+        (λ found. AllOf (λ row. row.member ≡ member_of target (key_of row)) found.items) }
     ensures cost { steps.new ≤ steps.old + length members.now }
 {
     let mut rows = Vec::new(alloc);
@@ -78,7 +82,8 @@ fn push_key<L: Ledger>(
     requires { IsBeside membership }
     ensures rows { OnOk result ((bs : List (List Edit)) → Tells bs items.now target membership.entry
         → keyed rows.new.items ≡ keyed rows.old.items ++ pairs_at (row_at (edits bs) target (option_copied query.entry)) (key ∷ [])) }
-    ensures members { AllOf (λ row. row.member ≡ member_of target (key_of row)) rows.old.items → AllOf (λ row. row.member ≡ member_of target (key_of row)) rows.new.items }
+    ensures members { AllOf (λ row. row.member ≡ member_of target (key_of row)) rows.old.items
+        → AllOf (λ row. row.member ≡ member_of target (key_of row)) rows.new.items }
     ensures cost { steps.new ≤ steps.old + 1 }
 {
     match item_under(items, membership, key) {
@@ -96,9 +101,11 @@ fn push_member<L: Ledger>(
     query: Option<&Query>,
     steps: &mut Steps<L>,
 ) -> Result<(), AllocError>
-    ensures rows { OnOk result ((bs : List (List Edit)) → StandsFor bs items.now → in_target (edits bs) target member.key ≡ item_at (edits bs) member.item
+    ensures rows { OnOk result ((bs : List (List Edit)) → StandsFor bs items.now
+        → in_target (edits bs) target member.key ≡ item_at (edits bs) member.item
         → keyed rows.new.items ≡ keyed rows.old.items ++ pairs_at (row_at (edits bs) target (option_copied query.entry)) (member.key ∷ [])) }
-    ensures members { AllOf (λ row. row.member ≡ member_of target (key_of row)) rows.old.items → AllOf (λ row. row.member ≡ member_of target (key_of row)) rows.new.items }
+    ensures members { AllOf (λ row. row.member ≡ member_of target (key_of row)) rows.old.items
+        → AllOf (λ row. row.member ≡ member_of target (key_of row)) rows.new.items }
     ensures cost { steps.new ≤ steps.old + 1 }
 {
     match items.shared(member.item) {

@@ -56,11 +56,14 @@ pub(crate) fn changed_at<L: Ledger>(
     requires beside { IsBeside membership }
     requires from { floor_of items.now.keep items.now.revision ≤ look.now.base }
     requires to { look.now.base ≤ items.now.revision }
-    ensures rows { IfOk result (λ changed. (bs : List (List Edit)) → TellsSince bs items.now target membership.entry look.now.base
+    ensures rows { IfOk result (λ changed. (bs : List (List Edit))
+        → TellsSince bs items.now target membership.entry look.now.base
         → keyed changed.rows.items ≡ pairs_at (listed_at bs target look.now) keys.now) }
-    ensures gone { IfOk result (λ changed. (bs : List (List Edit)) → TellsSince bs items.now target membership.entry look.now.base
+    ensures gone { IfOk result (λ changed. (bs : List (List Edit))
+        → TellsSince bs items.now target membership.entry look.now.base
         → changed.gone.items ≡ filter (is_deleted bs target look.now) keys.now) }
-    ensures members { IfOk result (λ changed. AllOf (λ row. row.member ≡ member_of target (key_of row)) changed.rows.items) }
+    ensures members { IfOk result
+        (λ changed. AllOf (λ row. row.member ≡ member_of target (key_of row)) changed.rows.items) }
     ensures cost { steps.new ≤ steps.old + 2 * length keys.now }
 {
     let shown = ShownProperties::of(&look.meta);
@@ -87,7 +90,8 @@ fn change_at<'a, L: Ledger>(
     requires shown { shown.now ≡ asked look.now.meta }
     requires from { floor_of items.now.keep items.now.revision ≤ look.now.base }
     requires to { look.now.base ≤ items.now.revision }
-    ensures change { (bs : List (List Edit)) (target : Target) → TellsSince bs items.now target membership.entry look.now.base
+    ensures change { (bs : List (List Edit)) (target : Target)
+        → TellsSince bs items.now target membership.entry look.now.base
         → IsChange bs target look.now key result }
     ensures cost { steps.new ≤ steps.old + 2 }
 {
@@ -99,8 +103,11 @@ fn change_at<'a, L: Ledger>(
 
 /// Returns the change from the row at the base to the row now.
 fn change_between<'a>(was: Option<&Row>, is: Option<&'a Row>, shown: &[Property]) -> Change<'a>
-    ensures listed { (member : Option ℕ) → listed_in result ≡ option_and_then (unless_shown member shown.now (option_copied was.entry)) (option_copied is.entry) }
-    ensures deleted { is_deletion result ≡ (is_none (option_copied is.entry) && is_some (option_copied was.entry)) }
+    ensures listed { (member : Option ℕ)
+        → listed_in result ≡ option_and_then
+        (unless_shown member shown.now (option_copied was.entry)) (option_copied is.entry) }
+    ensures deleted { is_deletion result
+        ≡ (is_none (option_copied is.entry) && is_some (option_copied was.entry)) }
 {
     match was {
         None => match is {
@@ -124,7 +131,8 @@ fn row_now<'a, L: Ledger>(
     steps: &mut Steps<L>,
 ) -> Option<&'a Row>
     requires { IsBeside membership }
-    ensures row { (bs : List (List Edit)) (target : Target) → Tells bs items.now target membership.entry
+    ensures row { (bs : List (List Edit)) (target : Target)
+        → Tells bs items.now target membership.entry
         → option_copied result ≡ row_at (edits bs) target (option_copied query.entry) key }
     ensures cost { steps.new ≤ steps.old + 1 }
 {
@@ -144,7 +152,8 @@ fn row_then<'a, L: Ledger>(
     requires beside { IsBeside membership }
     requires from { floor_of items.now.keep items.now.revision ≤ base }
     requires to { base ≤ items.now.revision }
-    ensures row { (bs : List (List Edit)) (target : Target) → TellsSince bs items.now target membership.entry base
+    ensures row { (bs : List (List Edit)) (target : Target)
+        → TellsSince bs items.now target membership.entry base
         → option_copied result ≡ row_at (edits (up_to bs base)) target (option_copied query.entry) key }
     ensures cost { steps.new ≤ steps.old + 1 }
 {
@@ -157,7 +166,8 @@ fn if_asked<'a, L: Ledger>(
     row: Option<&'a Row>,
     steps: &mut Steps<L>,
 ) -> Option<&'a Row>
-    ensures row { option_copied result ≡ option_and_then (if_selected (option_copied query.entry)) (option_copied row.entry) }
+    ensures row { option_copied result
+        ≡ option_and_then (if_selected (option_copied query.entry)) (option_copied row.entry) }
     ensures cost { steps.new ≤ steps.old + 1 }
 {
     let row = row?;
@@ -176,9 +186,11 @@ fn push_listed(
     key: u32,
     change: Change<'_>,
 ) -> Result<(), AllocError>
-    ensures rows { OnOk result ((bs : List (List Edit)) (look : PlainLook) → StandsFor bs items.now → IsChange bs target look key change.entry
+    ensures rows { OnOk result ((bs : List (List Edit)) (look : PlainLook) → StandsFor bs items.now
+        → IsChange bs target look key change.entry
         → keyed rows.new.items ≡ keyed rows.old.items ++ pairs_at (listed_at bs target look) (key ∷ [])) }
-    ensures members { AllOf (λ row. row.member ≡ member_of target (key_of row)) rows.old.items → AllOf (λ row. row.member ≡ member_of target (key_of row)) rows.new.items }
+    ensures members { AllOf (λ row. row.member ≡ member_of target (key_of row)) rows.old.items
+        → AllOf (λ row. row.member ≡ member_of target (key_of row)) rows.new.items }
 {
     match change {
         Change::Listed(row) => push_shared(rows, items, target, key, row.id),
@@ -194,9 +206,11 @@ fn push_shared(
     key: u32,
     id: u32,
 ) -> Result<(), AllocError>
-    ensures rows { OnOk result ((bs : List (List Edit)) (row : ItemRow) → StandsFor bs items.now → in_target (edits bs) target key ≡ Some row → id ≡ row.id
+    ensures rows { OnOk result ((bs : List (List Edit)) (row : ItemRow) → StandsFor bs items.now
+        → in_target (edits bs) target key ≡ Some row → id ≡ row.id
         → keyed rows.new.items ≡ keyed rows.old.items ++ (key, row) ∷ []) }
-    ensures members { AllOf (λ row. row.member ≡ member_of target (key_of row)) rows.old.items → AllOf (λ row. row.member ≡ member_of target (key_of row)) rows.new.items }
+    ensures members { AllOf (λ row. row.member ≡ member_of target (key_of row)) rows.old.items
+        → AllOf (λ row. row.member ≡ member_of target (key_of row)) rows.new.items }
 {
     let Some(row) = items.shared(id)? else {
         return Ok(());
@@ -208,7 +222,8 @@ fn push_shared(
 
 /// Adds the key, if its row is gone.
 fn push_gone(gone: &mut Vec<u32>, key: u32, change: Change<'_>) -> Result<(), AllocError>
-    ensures gone { OnOk result ((bs : List (List Edit)) (target : Target) (look : PlainLook) → IsChange bs target look key change.entry
+    ensures gone { OnOk result ((bs : List (List Edit)) (target : Target) (look : PlainLook)
+        → IsChange bs target look key change.entry
         → gone.new.items ≡ gone.old.items ++ filter (is_deleted bs target look) (key ∷ [])) }
 {
     match change {

@@ -56,7 +56,8 @@ fn plan_range(
 fn whole(items: &ItemStore, target: Target, meta: Meta) -> Result<Plan, AllocError>
     requires few { HasFew items.now }
     requires all { is_library target ≡ true }
-    ensures { IfOk result (λ plan. (bs : List (List Edit)) (range : Range) → StandsFor bs items.now → ((rows : List (ℕ × Row)) → in_range range rows ≡ rows)
+    ensures { IfOk result (λ plan. (bs : List (List Edit)) (range : Range) → StandsFor bs items.now
+        → ((rows : List (ℕ × Row)) → in_range range rows ≡ rows)
         → plan ≡ Rows (record { target = target; listing = full_listing bs target (record { query = None; meta = meta; base = 0; range = range }) })) }
 {
     let rows = items.sheets()?;

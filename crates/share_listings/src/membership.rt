@@ -33,7 +33,8 @@ pub(crate) enum Membership<'a> {
 
 /// Returns the membership of a target.
 pub(crate) fn membership_of(target: Target, lists: &PlaylistStore) -> Membership<'_>
-    ensures { (bs : List (List Edit)) → StandsFor bs lists.now → IsMembership lists.now.keep bs target result }
+    ensures { (bs : List (List Edit)) → StandsFor bs lists.now
+        → IsMembership lists.now.keep bs target result }
 {
     match target {
         Target::Container(list) if list != BASE_LIST => Membership::Members { lists, list },
@@ -56,7 +57,8 @@ pub(crate) fn item_under(items: &ItemStore, membership: Membership<'_>, key: u32
 /// Returns the id of the item that a key had at a kept base.
 pub(crate) fn item_then(membership: Membership<'_>, key: u32, base: u32) -> Option<u32>
     requires { IsBeside membership }
-    ensures { (bs : List (List Edit)) (items : Store) (target : Target) → TellsSince bs items target membership.entry base
+    ensures { (bs : List (List Edit)) (items : Store) (target : Target)
+        → TellsSince bs items target membership.entry base
         → option_and_then (item_at (edits (up_to bs base))) result ≡ in_target (edits (up_to bs base)) target key }
 {
     match membership {
@@ -68,7 +70,9 @@ pub(crate) fn item_then(membership: Membership<'_>, key: u32, base: u32) -> Opti
 /// Returns whether the stores have what changed since a base.
 pub(crate) fn is_kept(items: &ItemStore, membership: Membership<'_>, base: u32) -> bool
     requires few { (target : Target) × TellsFew items.now target membership }
-    ensures kept { (bs : List (List Edit)) (target : Target) → Tells bs items.now target membership.entry → result ≡ is_kept items.now.keep bs target base }
+    ensures kept { (bs : List (List Edit)) (target : Target)
+        → Tells bs items.now target membership.entry
+        → result ≡ is_kept items.now.keep bs target base }
     ensures from { result ≡ true → floor_of items.now.keep items.now.revision ≤ base }
     ensures to { result ≡ true → base ≤ items.now.revision }
 {
@@ -80,7 +84,8 @@ pub(crate) fn is_kept(items: &ItemStore, membership: Membership<'_>, base: u32) 
 
 /// Returns whether the store has what changed of the items since a base.
 fn is_in_window(items: &ItemStore, base: u32) -> bool
-    ensures kept { (bs : List (List Edit)) → item_stands.StandsFor bs items.now → result ≡ is_kept items.now.keep bs Items base }
+    ensures kept { (bs : List (List Edit)) → item_stands.StandsFor bs items.now
+        → result ≡ is_kept items.now.keep bs Items base }
     ensures from { result ≡ true → floor_of items.now.keep items.now.revision ≤ base }
     ensures to { result ≡ true → base ≤ items.now.revision }
 {
@@ -96,7 +101,8 @@ pub(crate) fn touched_keys(
     requires few { (target : Target) × TellsFew items.now target membership }
     requires from { floor_of items.now.keep items.now.revision ≤ base }
     requires to { base ≤ items.now.revision }
-    ensures { IfOk result (λ keys. (bs : List (List Edit)) (target : Target) → Tells bs items.now target membership.entry → keys.items ≡ touched bs target base) }
+    ensures { IfOk result (λ keys. (bs : List (List Edit)) (target : Target)
+        → Tells bs items.now target membership.entry → keys.items ≡ touched bs target base) }
 {
     match membership {
         Membership::Library => items.changed_since(base),

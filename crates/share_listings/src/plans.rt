@@ -13,7 +13,11 @@ use listing_plan::{Plan, PlanRow};
 /// Plans the full listing that has these rows before the range.
 pub(crate) fn full_plan(target: Target, revision: u32, look: Look, rows: Vec<PlanRow>) -> Plan
     requires { AreRowsOf target rows.items }
-    ensures { result ≡ Rows (record { target = target; listing = full_of revision target look (keyed rows.items) }) }
+    ensures { result ≡ Rows (record {
+      target = target;
+      listing = full_of revision target look
+          (keyed rows.items);
+    }) }
 {
     let total = rows.len() as u32;
     let listed = in_range(look.range, rows);
@@ -24,7 +28,11 @@ pub(crate) fn full_plan(target: Target, revision: u32, look: Look, rows: Vec<Pla
 pub(crate) fn delta_plan(target: Target, revision: u32, look: Look, changed: Changed) -> Plan
     requires rows { AreRowsOf target changed.rows.items }
     requires gone { AreGone changed.gone.items }
-    ensures { result ≡ Rows (record { target = target; listing = plan_of_delta target revision changed.rows.items changed.gone.items look.meta }) }
+    ensures { result ≡ Rows (record {
+      target = target;
+      listing = plan_of_delta target revision
+          changed.rows.items changed.gone.items look.meta;
+    }) }
 {
     Plan::delta(target, revision, changed.rows, changed.gone, look.meta)
 }

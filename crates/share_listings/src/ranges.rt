@@ -50,7 +50,8 @@ pub(crate) fn has_all(range: Range) -> bool
 
 /// Returns where the rows of a range are among `total` rows.
 pub(crate) fn window_of(range: Range, total: u32) -> Window
-    ensures { (rows : List (ℕ × Row)) → length rows ≡ total → in_range range rows ≡ drop result.from (take result.to rows) }
+    ensures { (rows : List (ℕ × Row)) → length rows ≡ total
+        → in_range range rows ≡ drop result.from (take result.to rows) }
 {
     let total = total as usize;
     match range {

@@ -96,7 +96,9 @@ fn sought_on(sheet: &Sheet, index: usize, property: Property) -> Option<Sought<'
 fn tag_on(sheet: &Sheet, index: usize, column: usize) -> &[u8]
     requires row { index < length sheet.now.rows }
     requires within { column < length sheet.now.properties }
-    ensures { (d : Row) → result.now ≡ joined (row_cells (take (column + 1 - column) (drop column sheet.now.properties)) (slice_index_or sheet.now.rows index d)) }
+    ensures { (d : Row) → result.now
+        ≡ joined (row_cells (take (column + 1 - column) (drop column sheet.now.properties))
+        (slice_index_or sheet.now.rows index d)) }
 {
     // There are as many properties as fit in memory, so the next index is a number.
     let _count = sheet.properties().len();

@@ -24,8 +24,10 @@ pub(crate) fn rows_within(
     target: Target,
     window: Window,
 ) -> Result<Vec<PlanRow>, AllocError>
-    ensures rows { IfOk result (λ found. keyed found.items ≡ drop window.from (take window.to rows.now)) }
-    ensures members { IfOk result (λ found. AllOf (λ row. row.member ≡ member_of target (key_of row)) found.items) }
+    ensures rows { IfOk result (λ found. keyed found.items
+        ≡ drop window.from (take window.to rows.now)) }
+    ensures members { IfOk result
+        (λ found. AllOf (λ row. row.member ≡ member_of target (key_of row)) found.items) }
 {
     let sheets = rows.sheets();
     let mut found = Vec::new(alloc);
@@ -49,8 +51,10 @@ pub(crate) fn rows_asked<L: Ledger>(
     query: Option<&Query>,
     steps: &mut Steps<L>,
 ) -> Result<Vec<PlanRow>, AllocError>
-    ensures rows { IfOk result (λ found. keyed found.items ≡ filter (λ row. is_selected (option_copied query.entry) row.1) rows.now) }
-    ensures members { IfOk result (λ found. AllOf (λ row. row.member ≡ member_of target (key_of row)) found.items) }
+    ensures rows { IfOk result (λ found. keyed found.items
+        ≡ filter (λ row. is_selected (option_copied query.entry) row.1) rows.now) }
+    ensures members { IfOk result
+        (λ found. AllOf (λ row. row.member ≡ member_of target (key_of row)) found.items) }
     ensures cost { steps.new ≤ steps.old + length rows.now }
 {
     let sheets = rows.sheets();
@@ -68,8 +72,10 @@ fn push_within(
     rows: &[SharedRow],
     window: Window,
 ) -> Result<(), AllocError>
-    ensures rows { OnOk result (keyed found.new.items ≡ keyed found.old.items ++ drop window.from (take window.to (by_id rows.now))) }
-    ensures members { AllOf (λ row. row.member ≡ member_of target (key_of row)) found.old.items → AllOf (λ row. row.member ≡ member_of target (key_of row)) found.new.items }
+    ensures rows { OnOk result (keyed found.new.items
+        ≡ keyed found.old.items ++ drop window.from (take window.to (by_id rows.now))) }
+    ensures members { AllOf (λ row. row.member ≡ member_of target (key_of row)) found.old.items
+        → AllOf (λ row. row.member ≡ member_of target (key_of row)) found.new.items }
 {
     let part = window.of(rows);
     for row in part {
@@ -86,8 +92,11 @@ fn push_asked<L: Ledger>(
     query: Option<&Query>,
     steps: &mut Steps<L>,
 ) -> Result<(), AllocError>
-    ensures rows { OnOk result (keyed found.new.items ≡ keyed found.old.items ++ filter (λ row. is_selected (option_copied query.entry) row.1) (by_id sheet.now.rows)) }
-    ensures members { AllOf (λ row. row.member ≡ member_of target (key_of row)) found.old.items → AllOf (λ row. row.member ≡ member_of target (key_of row)) found.new.items }
+    ensures rows { OnOk result (keyed found.new.items
+        ≡ keyed found.old.items ++ filter (λ row. is_selected (option_copied query.entry) row.1)
+        (by_id sheet.now.rows)) }
+    ensures members { AllOf (λ row. row.member ≡ member_of target (key_of row)) found.old.items
+        → AllOf (λ row. row.member ≡ member_of target (key_of row)) found.new.items }
     ensures cost { steps.new ≤ steps.old + length sheet.now.rows }
 {
     let count = sheet.rows().len();
@@ -109,7 +118,8 @@ fn push_if_asked<L: Ledger>(
     requires { index < length sheet.now.rows }
     ensures rows { OnOk result (keyed found.new.items ≡ keyed found.old.items
         ++ filter (λ row. is_selected (option_copied query.entry) row.1) (by_id (sheet_row sheet.now index ∷ []))) }
-    ensures members { AllOf (λ row. row.member ≡ member_of target (key_of row)) found.old.items → AllOf (λ row. row.member ≡ member_of target (key_of row)) found.new.items }
+    ensures members { AllOf (λ row. row.member ≡ member_of target (key_of row)) found.old.items
+        → AllOf (λ row. row.member ≡ member_of target (key_of row)) found.new.items }
     ensures cost { steps.new ≤ steps.old + 1 }
 {
     let row = SheetRow::at(sheet, index);
@@ -121,8 +131,10 @@ fn push_if_asked<L: Ledger>(
 
 // Adds a row under its id.
 fn push(found: &mut Vec<PlanRow>, target: Target, row: &SharedRow) -> Result<(), AllocError>
-    ensures rows { OnOk result (keyed found.new.items ≡ keyed found.old.items ++ (row.now.id, row.now) ∷ []) }
-    ensures members { AllOf (λ row. row.member ≡ member_of target (key_of row)) found.old.items → AllOf (λ row. row.member ≡ member_of target (key_of row)) found.new.items }
+    ensures rows { OnOk result (keyed found.new.items
+        ≡ keyed found.old.items ++ (row.now.id, row.now) ∷ []) }
+    ensures members { AllOf (λ row. row.member ≡ member_of target (key_of row)) found.old.items
+        → AllOf (λ row. row.member ≡ member_of target (key_of row)) found.new.items }
 {
     let member = member_of(target, row.row().id);
     let row = row.share()?;

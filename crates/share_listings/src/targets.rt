@@ -12,7 +12,8 @@ use share_history::BASE_LIST;
 
 /// Returns whether the target of a listing exists.
 pub fn is_there(lists: &PlaylistStore, target: Target) -> bool
-    ensures { (bs : List (List Edit)) → StandsFor bs lists.now → result ≡ is_there (edits bs) target }
+    ensures { (bs : List (List Edit)) → StandsFor bs lists.now
+        → result ≡ is_there (edits bs) target }
 {
     match target {
         Target::Container(list) if list != BASE_LIST => lists.head(list).is_some(),

@@ -98,7 +98,8 @@ pub fn full_target(
     look: Look,
 ) -> Result<Plan, AllocError>
     requires few { HaveFew items.now lists.now }
-    ensures { IfOk result (λ plan. (bs : List (List Edit)) → StandsFor bs items.now → lists_stand.StandsFor bs lists.now
+    ensures { IfOk result (λ plan. (bs : List (List Edit)) → StandsFor bs items.now
+        → lists_stand.StandsFor bs lists.now
         → plan ≡ Rows (record { target = target; listing = full_listing bs target look })) }
 {
     target_by::<Brand>(Blank::new(1), alloc, items, lists, target, look)
@@ -116,7 +117,8 @@ fn target_by<L: Ledger>(
     requires parts { blank.parts ≡ L.parts }
     requires any { 0 < blank.parts }
     requires few { HaveFew items.now lists.now }
-    ensures { IfOk result (λ plan. (bs : List (List Edit)) → StandsFor bs items.now → lists_stand.StandsFor bs lists.now
+    ensures { IfOk result (λ plan. (bs : List (List Edit)) → StandsFor bs items.now
+        → lists_stand.StandsFor bs lists.now
         → plan ≡ Rows (record { target = target; listing = full_listing bs target look })) }
 {
     let mut steps = Steps::<L>::open(blank);

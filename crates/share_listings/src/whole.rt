@@ -39,10 +39,13 @@ pub(crate) fn full<L: Ledger>(
     steps: &mut Steps<L>,
 ) -> Result<Plan, AllocError>
     requires few { TellsFew items.now target membership }
-    requires start { (bs : List (List Edit)) → StandsFor bs items.now → StartFrom (edits bs) look.query (option_copied candidates) }
-    ensures listing { IfOk result (λ plan. (bs : List (List Edit)) → Tells bs items.now target membership.entry
+    requires start { (bs : List (List Edit)) → StandsFor bs items.now
+        → StartFrom (edits bs) look.query (option_copied candidates) }
+    ensures listing { IfOk result (λ plan. (bs : List (List Edit))
+        → Tells bs items.now target membership.entry
         → plan ≡ Rows (record { target = target; listing = full_listing bs target look })) }
-    ensures cost { (bs : List (List Edit)) → Tells bs items.now target membership.entry → steps.new ≤ steps.old + looked_at (edits bs) target (option_copied candidates.entry) }
+    ensures cost { (bs : List (List Edit)) → Tells bs items.now target membership.entry
+        → steps.new ≤ steps.old + looked_at (edits bs) target (option_copied candidates.entry) }
 {
     match membership {
         Membership::Library if look.query.is_none() => unselected(alloc, items, target, look),
@@ -61,10 +64,13 @@ fn selected<L: Ledger>(
     steps: &mut Steps<L>,
 ) -> Result<Plan, AllocError>
     requires few { TellsFew items.now target membership }
-    requires start { (bs : List (List Edit)) → StandsFor bs items.now → StartFrom (edits bs) look.query (option_copied candidates) }
-    ensures listing { IfOk result (λ plan. (bs : List (List Edit)) → Tells bs items.now target membership.entry
+    requires start { (bs : List (List Edit)) → StandsFor bs items.now
+        → StartFrom (edits bs) look.query (option_copied candidates) }
+    ensures listing { IfOk result (λ plan. (bs : List (List Edit))
+        → Tells bs items.now target membership.entry
         → plan ≡ Rows (record { target = target; listing = full_listing bs target look })) }
-    ensures cost { (bs : List (List Edit)) → Tells bs items.now target membership.entry → steps.new ≤ steps.old + looked_at (edits bs) target (option_copied candidates.entry) }
+    ensures cost { (bs : List (List Edit)) → Tells bs items.now target membership.entry
+        → steps.new ≤ steps.old + looked_at (edits bs) target (option_copied candidates.entry) }
 {
     let query = look.query.as_ref();
     let rows = rows_selected(alloc, items, membership, target, query, candidates, steps)?;
@@ -82,11 +88,15 @@ fn rows_selected<L: Ledger>(
     steps: &mut Steps<L>,
 ) -> Result<Vec<PlanRow>, AllocError>
     requires beside { IsBeside membership }
-    requires start { (bs : List (List Edit)) → StandsFor bs items.now → StartFrom (edits bs) (option_copied query) (option_copied candidates) }
-    ensures rows { IfOk result (λ found. (bs : List (List Edit)) → Tells bs items.now target membership.entry
+    requires start { (bs : List (List Edit)) → StandsFor bs items.now
+        → StartFrom (edits bs) (option_copied query) (option_copied candidates) }
+    ensures rows { IfOk result (λ found. (bs : List (List Edit))
+        → Tells bs items.now target membership.entry
         → keyed found.items ≡ rows (edits bs) target (option_copied query.entry)) }
-    ensures members { IfOk result (λ found. AllOf (λ row. row.member ≡ member_of target (key_of row)) found.items) }
-    ensures cost { (bs : List (List Edit)) → Tells bs items.now target membership.entry → steps.new ≤ steps.old + looked_at (edits bs) target (option_copied candidates.entry) }
+    ensures members { IfOk result
+        (λ found. AllOf (λ row. row.member ≡ member_of target (key_of row)) found.items) }
+    ensures cost { (bs : List (List Edit)) → Tells bs items.now target membership.entry
+        → steps.new ≤ steps.old + looked_at (edits bs) target (option_copied candidates.entry) }
 {
     match membership {
         Membership::Library => rows_of_all(alloc, items, target, query, candidates, steps),
@@ -105,10 +115,13 @@ fn rows_of_all<L: Ledger>(
     candidates: Option<&[u32]>,
     steps: &mut Steps<L>,
 ) -> Result<Vec<PlanRow>, AllocError>
-    requires start { (bs : List (List Edit)) → StandsFor bs items.now → StartFrom (edits bs) (option_copied query) (option_copied candidates) }
-    ensures rows { IfOk result (λ found. (bs : List (List Edit)) → StandsFor bs items.now → is_library target ≡ true
+    requires start { (bs : List (List Edit)) → StandsFor bs items.now
+        → StartFrom (edits bs) (option_copied query) (option_copied candidates) }
+    ensures rows { IfOk result (λ found. (bs : List (List Edit)) → StandsFor bs items.now
+        → is_library target ≡ true
         → keyed found.items ≡ rows (edits bs) target (option_copied query.entry)) }
-    ensures members { IfOk result (λ found. AllOf (λ row. row.member ≡ member_of target (key_of row)) found.items) }
+    ensures members { IfOk result
+        (λ found. AllOf (λ row. row.member ≡ member_of target (key_of row)) found.items) }
     ensures cost { (bs : List (List Edit)) → StandsFor bs items.now → is_library target ≡ true
         → steps.new ≤ steps.old + looked_at (edits bs) target (option_copied candidates.entry) }
 {
@@ -129,10 +142,13 @@ fn rows_of_list<L: Ledger>(
     steps: &mut Steps<L>,
 ) -> Result<Vec<PlanRow>, AllocError>
     requires beside { (list == base_list) ≡ false }
-    ensures rows { IfOk result (λ found. (bs : List (List Edit)) → StandsFor bs items.now → lists_stand.StandsFor bs lists.now
+    ensures rows { IfOk result (λ found. (bs : List (List Edit)) → StandsFor bs items.now
+        → lists_stand.StandsFor bs lists.now
         → target ≡ Container list → keyed found.items ≡ rows (edits bs) target (option_copied query.entry)) }
-    ensures members { IfOk result (λ found. AllOf (λ row. row.member ≡ member_of target (key_of row)) found.items) }
-    ensures cost { (bs : List (List Edit)) → StandsFor bs items.now → lists_stand.StandsFor bs lists.now
+    ensures members { IfOk result
+        (λ found. AllOf (λ row. row.member ≡ member_of target (key_of row)) found.items) }
+    ensures cost { (bs : List (List Edit)) → StandsFor bs items.now
+        → lists_stand.StandsFor bs lists.now
         → target ≡ Container list → steps.new ≤ steps.old + looked_at (edits bs) target None }
 {
     let members = members_of(alloc, items, lists, list)?;
@@ -147,7 +163,8 @@ fn members_of(
     list: u32,
 ) -> Result<Vec<Member>, AllocError>
     requires beside { (list == base_list) ≡ false }
-    ensures { IfOk result (λ members. (bs : List (List Edit)) → StandsFor bs items.now → lists_stand.StandsFor bs lists.now
+    ensures { IfOk result (λ members. (bs : List (List Edit)) → StandsFor bs items.now
+        → lists_stand.StandsFor bs lists.now
         → map pair_of members.items ≡ map (λ row. (row.0, row.1.id)) (rows (edits bs) (Container list) None)) }
 {
     match lists.members(list, items) {

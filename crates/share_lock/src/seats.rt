@@ -56,13 +56,16 @@ pub(crate) fn enter<S: Recorded, R: Wait>(
     seat: &mut Seat<Option<S>, View<S::Entry, S::Settings>>,
     ticket: u64,
 ) -> S
-    requires table { (table.now.table_id.words ≡ 4) × (table.now.table_id.slots ≡ 1) × (seat.old.table_id ≡ table.now.table_id) }
-    requires waits { (seat.old.me.0.ticket ≡ Some ticket) × (seat.old.me.0.inside ≡ false) × (seat.old.me.1 ≡ []) }
+    requires table { (table.now.table_id.words ≡ 4) × (table.now.table_id.slots ≡ 1)
+        × (seat.old.table_id ≡ table.now.table_id) }
+    requires waits { (seat.old.me.0.ticket ≡ Some ticket) × (seat.old.me.0.inside ≡ false)
+        × (seat.old.me.1 ≡ []) }
     requires passes { 1 ≤ seat.old.me.0.passes }
     ensures table { seat.new.table_id ≡ seat.old.table_id }
     ensures inside { seat.new.me ≡ (holding seat.old.me.0 (S.entries result), (0, None) ∷ []) }
     ensures settings { S.settings result ≡ seat.old.me.0.settings }
-    ensures history { Continues S.by (own_numbers seat.old.me.0) seat.old.me.0.seen (S.entries result) }
+    ensures history { Continues S.by (own_numbers seat.old.me.0) seat.old.me.0.seen
+        (S.entries result) }
     ensures numbers { All (λ e. S.by e < seat.old.me.0.passes) (S.entries result) }
 {
     for _ in rt.forever() {
@@ -82,14 +85,17 @@ pub(crate) fn leave<S: Recorded>(
     state: S,
     recorded: u64,
 )
-    requires table { (table.now.table_id.words ≡ 4) × (table.now.table_id.slots ≡ 1) × (seat.old.table_id ≡ table.now.table_id) }
+    requires table { (table.now.table_id.words ≡ 4) × (table.now.table_id.slots ≡ 1)
+        × (seat.old.table_id ≡ table.now.table_id) }
     requires inside { (seat.old.me.0.inside ≡ true) × (seat.old.me.1 ≡ (0, None) ∷ []) }
     requires passes { 1 ≤ seat.old.me.0.passes }
     requires settings { S.settings state ≡ seat.old.me.0.settings }
-    requires number { (n : ℕ) × (seat.old.me.0.number ≡ Some n) × Adds S.by n seat.old.me.0.noted (S.entries state) }
+    requires number { (n : ℕ) × (seat.old.me.0.number ≡ Some n)
+        × Adds S.by n seat.old.me.0.noted (S.entries state) }
     requires length { recorded ≡ length (S.entries state) }
     ensures table { seat.new.table_id ≡ seat.old.table_id }
-    ensures outside { seat.new.me ≡ (having_seen (record seat.old.me.0 { noted = S.entries state }), []) }
+    ensures outside { seat.new.me
+        ≡ (having_seen (record seat.old.me.0 { noted = S.entries state }), []) }
 {
     let put = table.exchange(seat, 0, Some(state));
     let None = put else { unreachable!() };
@@ -104,7 +110,8 @@ pub(crate) fn name<S: Recorded, R: Wait>(
     seat: &mut Seat<Option<S>, View<S::Entry, S::Settings>>,
     passes: u32,
 ) -> u32
-    requires table { (table.now.table_id.words ≡ 4) × (table.now.key.passes ≡ passes) × (seat.old.table_id ≡ table.now.table_id) }
+    requires table { (table.now.table_id.words ≡ 4) × (table.now.key.passes ≡ passes)
+        × (seat.old.table_id ≡ table.now.table_id) }
     requires unnamed { (seat.old.me.0.number ≡ None) × (seat.old.me.0.inside ≡ false) }
     ensures table { seat.new.table_id ≡ seat.old.table_id }
     ensures named { seat.new.me ≡ (record seat.old.me.0 { number = Some result }, seat.old.me.1) }

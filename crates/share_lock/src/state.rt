@@ -9,7 +9,8 @@ use crate::recorded::Recorded;
 impl<S: Recorded> Turn<'_, S> {
     /// Returns the state. `give` returns what was written to it.
     pub fn state(&mut self) -> &mut S
-        ensures* lent { sem 𝓛 (LendsState S.row S.Entry.row S.Settings.row ⟦<S as Recorded>⟧ self.entry result) }
+        ensures* lent { sem 𝓛 (LendsState S.row S.Entry.row S.Settings.row ⟦<S as Recorded>⟧
+            self.entry result) }
         ensures value { result.now ≡ self.old.state }
     {
         &mut self.state

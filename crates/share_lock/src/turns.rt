@@ -57,9 +57,12 @@ impl<S: Recorded> ShareLock<S> {
         ensures same { IsReady (lock_id self.now) pass.new × (known pass.new ≡ known pass.old) }
         ensures succeeds { IsOk result }
         ensures ready { IfOk result (λ p. IsReady (lock_id self.now) p) }
-        ensures pass { IfOk result (λ p. known p ≡ fresh (known p).number (known pass.old).settings (known pass.old).seen) }
-        ensures number { IfOk result (λ p. (1 ≤ (known p).number) × ((known p).number < passes_of self.now)) }
-        ensures another { IfOk result (λ p. ¬ (Contains (numbers_of (known pass.old)) (known p).number)) }
+        ensures pass { IfOk result (λ p. known p
+            ≡ fresh (known p).number (known pass.old).settings (known pass.old).seen) }
+        ensures number { IfOk result (λ p. (1 ≤ (known p).number)
+            × ((known p).number < passes_of self.now)) }
+        ensures another { IfOk result
+            (λ p. ¬ (Contains (numbers_of (known pass.old)) (known p).number)) }
     {
         let table = &self.table.shared;
         let mut seat = table.split_seat::<SplitPass>(&mut pass.seat);
@@ -81,8 +84,10 @@ impl<S: Recorded> ShareLock<S> {
         ensures pass { known result.pass.now ≡ known pass.old }
         ensures found { found_of result.pass.now ≡ S.entries result.state }
         ensures settings { S.settings result.state ≡ (known pass.old).settings }
-        ensures history { Continues S.by (numbers_of (known pass.old)) (known pass.old).seen (S.entries result.state) }
-        ensures own { entries_of S.by (known pass.old).number (S.entries result.state) ≡ entries_of S.by (known pass.old).number (known pass.old).seen }
+        ensures history { Continues S.by (numbers_of (known pass.old)) (known pass.old).seen
+            (S.entries result.state) }
+        ensures own { entries_of S.by (known pass.old).number (S.entries result.state)
+            ≡ entries_of S.by (known pass.old).number (known pass.old).seen }
         ensures numbers { All (λ e. S.by e < passes_of self.now) (S.entries result.state) }
     {
         self.gate.enter(rt);
@@ -97,10 +102,13 @@ impl<S: Recorded> ShareLock<S> {
     pub fn give(&self, turn: Turn<'_, S>)
         requires inside { IsInside (lock_id self.now) turn.pass.now }
         requires settings { S.settings turn.state ≡ (known turn.pass.now).settings }
-        requires added { Adds S.by (known turn.pass.now).number (found_of turn.pass.now) (S.entries turn.state) }
+        requires added { Adds S.by (known turn.pass.now).number (found_of turn.pass.now)
+            (S.entries turn.state) }
         ensures ready { IsReady (lock_id self.now) turn.exit.0.now }
-        ensures pass { known turn.exit.0.now ≡ after_turn (known turn.entry.pass.now) (S.entries turn.entry.state) }
-        ensures own { AddsOwn S.by (known turn.entry.pass.now).number (found_of turn.entry.pass.now) (S.entries turn.entry.state) }
+        ensures pass { known turn.exit.0.now
+            ≡ after_turn (known turn.entry.pass.now) (S.entries turn.entry.state) }
+        ensures own { AddsOwn S.by (known turn.entry.pass.now).number (found_of turn.entry.pass.now)
+            (S.entries turn.entry.state) }
     {
         let Turn { pass, state } = turn;
         let seen = state.recorded();
@@ -113,7 +121,8 @@ impl<S: Recorded> ShareLock<S> {
     pub fn end(&self, turn: Turn<'_, S>) -> S
         requires inside { IsInside (lock_id self.now) turn.pass.now }
         ensures state { result ≡ turn.entry.state }
-        ensures pass { known turn.exit.0.now ≡ record (known turn.entry.pass.now) { is_over = true } }
+        ensures pass { known turn.exit.0.now
+            ≡ record (known turn.entry.pass.now) { is_over = true } }
     {
         let Turn { pass, state } = turn;
         pass.is_over = true;
@@ -126,8 +135,10 @@ impl<S: Recorded> ShareLock<S> {
         requires other { IsReady (lock_id self.now) other }
         ensures ready { IsReady (lock_id self.now) pass.new }
         ensures pass { known pass.new ≡ after_join (known pass.old) (known other) }
-        ensures first { Continues S.by (numbers_of (known pass.old)) (known pass.old).seen (known pass.new).seen }
-        ensures second { Continues S.by (numbers_of (known other)) (known other).seen (known pass.new).seen }
+        ensures first { Continues S.by (numbers_of (known pass.old)) (known pass.old).seen
+            (known pass.new).seen }
+        ensures second { Continues S.by (numbers_of (known other)) (known other).seen
+            (known pass.new).seen }
         ensures apart { AreApart (numbers_of (known pass.old)) (numbers_of (known other)) }
     {
         let Pass {

@@ -107,9 +107,13 @@ impl Register {
         requires going { is_stopped self.old.history ≡ false }
         requires below { is_below_entry_limit self.old.history ≡ true }
         ensures id { IfOk result (λ id. id ≡ next_session self.old.history) }
-        ensures history { OnOk result (self.new.history ≡ self.old.history ++ Entry.Login by (next_session self.old.history) ∷ []) }
-        ensures marks { OnOk result (self.new.marks ≡ marks_after self.new.history (next_session self.old.history) self.old.marks) }
-        ensures unchanged { OnErr result ((self.new.history ≡ self.old.history) × (self.new.marks ≡ self.old.marks)) }
+        ensures history { OnOk result
+            (self.new.history ≡ self.old.history ++ Entry.Login by (next_session self.old.history)
+            ∷ []) }
+        ensures marks { OnOk result (self.new.marks
+            ≡ marks_after self.new.history (next_session self.old.history) self.old.marks) }
+        ensures unchanged { OnErr result ((self.new.history ≡ self.old.history)
+            × (self.new.marks ≡ self.old.marks)) }
     {
         let id = self.logins + 1;
         let point = self.log.len() + 1;

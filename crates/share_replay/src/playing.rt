@@ -14,7 +14,7 @@ use outside_net::Sink;
 use share_core::Share;
 use std::alloc::Global;
 
-/// Plays one line, and answers until no connection can be answered.
+/// Plays one line, and has the share answer until none of its connections can be answered.
 pub(crate) fn play<W: Sink>(
     alloc: Global,
     line: &Delivery,
@@ -38,7 +38,7 @@ pub(crate) fn play<W: Sink>(
     }
 }
 
-// Answers until no connection can be answered.
+// Has the share answer until none of its connections can be answered.
 fn settle<W: Sink>(
     alloc: Global,
     place: usize,

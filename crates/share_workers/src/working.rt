@@ -207,7 +207,8 @@ fn serve_one<D: Listener, F: Keeps, R: Wait + Clock>(
     ensures stopped { result.stopped ≡ is_stopped (known worker.new.pass).seen }
     ensures keeping { KeepsEdits F.Keeps keeper.old keeper.new
         (known worker.old.pass) (known worker.new.pass) result.lost }
-    ensures done { (report : Report) × (worker.new.reports.items ≡ worker.old.reports.items ++ report ∷ [])
+    ensures done { (report : Report)
+        × (worker.new.reports.items ≡ worker.old.reports.items ++ report ∷ [])
         × (budget.new + length report.served ≡ budget.old)
         × (is_loss report.end ≡ result.lost)
         × ServesOne D.Listener worker.old worker.new (serving_of D.L.Link (known worker.old.pass) link)

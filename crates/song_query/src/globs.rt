@@ -12,8 +12,10 @@ use item_model::Pattern;
 /// text, folded, is the folded parts in order, with any characters between each two. Tries no offset twice and does
 /// not allocate.
 pub fn is_glob(pattern: &Pattern, searched: &str) -> bool
-    ensures joined { (text : List ℕ) → IsSearchedFor text searched.now → Decides result (Glob pattern.now text) }
-    ensures test { (text : List ℕ) → IsSearchedFor text searched.now → result ≡ glob pattern.now text }
+    ensures joined { (text : List ℕ) → IsSearchedFor text searched.now
+        → Decides result (Glob pattern.now text) }
+    ensures test { (text : List ℕ) → IsSearchedFor text searched.now
+        → result ≡ glob pattern.now text }
 {
     is_described(pattern.folded(), searched.as_bytes())
 }

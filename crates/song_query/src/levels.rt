@@ -64,7 +64,8 @@ impl Levels {
 
     /// Removes and returns the innermost level.
     pub fn pop(&mut self) -> Option<Level>
-        ensures { MatchOption result ((self.old ≡ []) × (self.new ≡ [])) (λ l. self.old ≡ l ∷ self.new) }
+        ensures { MatchOption result ((self.old ≡ []) × (self.new ≡ []))
+            (λ l. self.old ≡ l ∷ self.new) }
     {
         self.items.pop()
     }
@@ -127,7 +128,8 @@ fn any(members: Queries) -> Query
 
 // Returns the query if there is exactly one, and the queries as they are otherwise.
 fn only(queries: Queries) -> Result<Query, Queries>
-    ensures { MatchResult result (λ q. queries ≡ tree_of q ∷ []) (λ qs. (qs ≡ queries) × (length queries ≢ 1)) }
+    ensures { MatchResult result (λ q. queries ≡ tree_of q ∷ []) (λ qs. (qs ≡ queries)
+        × (length queries ≢ 1)) }
 {
     let mut items = queries.into_vec();
     if items.len() != 1 {

@@ -24,7 +24,8 @@ const ITEM_ID: &str = "dmap.itemid";
 /// a text is tried twice against a pattern.
 pub fn matches<R: Searched, L: Ledger>(query: &Query, row: &R, steps: &mut Steps<L>) -> bool
     ensures meaning { result ≡ holds (tree_of query.now) (R.represents row.now) }
-    ensures globs { (pieces : List (List ℕ)) (text : List ℕ) → Decides (glob pieces text) (Glob pieces text) }
+    ensures globs { (pieces : List (List ℕ)) (text : List ℕ)
+        → Decides (glob pieces text) (Glob pieces text) }
     ensures cost { steps.new ≡ steps.old + 1 }
 {
     steps.tick();
@@ -122,7 +123,8 @@ fn is_met_by_number(op: Op, pattern: &Pattern, n: u64) -> bool
 // The result is the same for each text for which `searched` may be searched.
 #[tactic(auto, unfolding(crate::specs::Holds::matches_value, crate::specs::Holds::is_less, crate::specs::Holds::is_more))]
 fn is_met_by_text(op: Op, pattern: &Pattern, searched: &str) -> bool
-    ensures { (text : List ℕ) → IsSearchedFor text searched.now → result ≡ is_met op pattern.now (Words text) }
+    ensures { (text : List ℕ) → IsSearchedFor text searched.now
+        → result ≡ is_met op pattern.now (Words text) }
 {
     match op {
         Op::Is => is_glob(pattern, searched),
@@ -164,7 +166,8 @@ fn number(digits: &[u8]) -> Option<u64>
 // Returns the number followed by one more digit.
 fn with_digit(n: u64, digit: u8) -> Option<u64>
     requires { is_ascii_digit digit ≡ true }
-    ensures { result ≡ (if nat_lt (n * 10 + (digit - 48)) (2 ^ 64) then Some (n * 10 + (digit - 48)) else None) }
+    ensures { result ≡ (if nat_lt (n * 10 + (digit - 48)) (2 ^ 64) then Some (n * 10 + (digit - 48))
+        else None) }
 {
     n.checked_mul(10)?.checked_add(u64::from(digit - b'0'))
 }

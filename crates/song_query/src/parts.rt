@@ -83,7 +83,8 @@ impl Partial {
 
     /// Ends a part at a wildcard or at the end of the value, and begins the next, which is empty.
     pub fn end_piece(&mut self, alloc: Global) -> Result<(), AllocError>
-        ensures pieces { OnOk result (self.new.pieces ≡ self.old.pieces ++ string_bytes self.old.piece ∷ []) }
+        ensures pieces { OnOk result
+            (self.new.pieces ≡ self.old.pieces ++ string_bytes self.old.piece ∷ []) }
         ensures piece { OnOk result (string_bytes self.new.piece ≡ []) }
         ensures name { string_bytes self.new.name ≡ string_bytes self.old.name }
         ensures op { self.new.op ≡ self.old.op }
@@ -97,7 +98,8 @@ impl Partial {
     /// Returns the condition, and moves its parts out.
     pub fn cond(&mut self, alloc: Global) -> Result<Cond, AllocError>
         requires { 0 < length self.old.pieces }
-        ensures { IfOk result (λ c. (c.name ≡ string_bytes self.old.name) × (c.op ≡ self.old.op) × (c.pattern ≡ self.old.pieces)) }
+        ensures { IfOk result (λ c. (c.name ≡ string_bytes self.old.name) × (c.op ≡ self.old.op)
+            × (c.pattern ≡ self.old.pieces)) }
     {
         let name = Text::of(alloc, self.name.as_str())?;
         let pieces = replace(&mut self.pieces, Texts::new(alloc));

@@ -20,10 +20,14 @@ pub fn print(alloc: Global, query: &Query) -> Result<Text, AllocError>
     requires { IsProper query.now }
     ensures text { IfOk result (λ t. t ≡ printed (tree_of query.now)) }
     ensures reads { IfOk result (λ t. QueryReads t (tree_of query.now)) }
-    ensures only { IfOk result (λ t. (other : QueryTree) → QueryReads t other → other ≡ tree_of query.now) }
-    ensures least { IfOk result (λ t. (other : List ℕ) → QueryReads other (tree_of query.now) → length t ≤ length other) }
-    ensures shallowest { IfOk result (λ t. (other : List ℕ) → QueryReads other (tree_of query.now) → deepest t ≤ deepest other) }
-    ensures read_again { IfOk result (λ t. (other : List ℕ) → Answers other (Ok query.now) → Answers t (Ok query.now)) }
+    ensures only { IfOk result (λ t. (other : QueryTree) → QueryReads t other
+        → other ≡ tree_of query.now) }
+    ensures least { IfOk result (λ t. (other : List ℕ) → QueryReads other (tree_of query.now)
+        → length t ≤ length other) }
+    ensures shallowest { IfOk result (λ t. (other : List ℕ) → QueryReads other (tree_of query.now)
+        → deepest t ≤ deepest other) }
+    ensures read_again { IfOk result (λ t. (other : List ℕ) → Answers other (Ok query.now)
+        → Answers t (Ok query.now)) }
 {
     let mut out = String::new(alloc);
     push_query(&mut out, query)?;
@@ -32,7 +36,8 @@ pub fn print(alloc: Global, query: &Query) -> Result<Text, AllocError>
 }
 
 fn push_query(out: &mut String, query: &Query) -> Result<(), AllocError>
-    ensures { OnOk result (string_bytes out.new ≡ string_bytes out.old ++ printed (tree_of query.now)) }
+    ensures { OnOk result (string_bytes out.new
+        ≡ string_bytes out.old ++ printed (tree_of query.now)) }
 {
     match query {
         Query::Cond(cond) => push_cond(out, cond),
@@ -44,7 +49,8 @@ fn push_query(out: &mut String, query: &Query) -> Result<(), AllocError>
 // Appends a unit of an `And`: lists are in parentheses.
 #[cycle(push)]
 fn push_unit(out: &mut String, query: &Query) -> Result<(), AllocError>
-    ensures { OnOk result (string_bytes out.new ≡ string_bytes out.old ++ printed_unit (tree_of query.now)) }
+    ensures { OnOk result (string_bytes out.new
+        ≡ string_bytes out.old ++ printed_unit (tree_of query.now)) }
 {
     match query {
         Query::Cond(cond) => push_cond(out, cond),
@@ -56,7 +62,8 @@ fn push_unit(out: &mut String, query: &Query) -> Result<(), AllocError>
 // Appends a member of an `Or`: only an `Or` is in parentheses.
 #[cycle(push)]
 fn push_member(out: &mut String, query: &Query) -> Result<(), AllocError>
-    ensures { OnOk result (string_bytes out.new ≡ string_bytes out.old ++ printed_member (tree_of query.now)) }
+    ensures { OnOk result (string_bytes out.new
+        ≡ string_bytes out.old ++ printed_member (tree_of query.now)) }
 {
     match query {
         Query::Cond(cond) => push_cond(out, cond),
@@ -68,7 +75,9 @@ fn push_member(out: &mut String, query: &Query) -> Result<(), AllocError>
 // Appends units in parentheses.
 #[cycle(push)]
 fn push_closed_and(out: &mut String, units: &[Query]) -> Result<(), AllocError>
-    ensures { OnOk result (string_bytes out.new ≡ string_bytes out.old ++ 40 ∷ (printed_and (queries_of (map tree_of units.now)) ++ 41 ∷ [])) }
+    ensures { OnOk result (string_bytes out.new
+        ≡ string_bytes out.old ++ 40
+        ∷ (printed_and (queries_of (map tree_of units.now)) ++ 41 ∷ [])) }
 {
     out.push('(')?;
     push_and(out, units)?;
@@ -78,7 +87,9 @@ fn push_closed_and(out: &mut String, units: &[Query]) -> Result<(), AllocError>
 // Appends members in parentheses.
 #[cycle(push)]
 fn push_closed_or(out: &mut String, members: &[Query]) -> Result<(), AllocError>
-    ensures { OnOk result (string_bytes out.new ≡ string_bytes out.old ++ 40 ∷ (printed_or (queries_of (map tree_of members.now)) ++ 41 ∷ [])) }
+    ensures { OnOk result (string_bytes out.new
+        ≡ string_bytes out.old ++ 40
+        ∷ (printed_or (queries_of (map tree_of members.now)) ++ 41 ∷ [])) }
 {
     out.push('(')?;
     push_or(out, members)?;
@@ -88,7 +99,8 @@ fn push_closed_or(out: &mut String, members: &[Query]) -> Result<(), AllocError>
 #[cycle(push)]
 #[tactic(auto, using(crate::proofs::Sizes::member_falls))]
 fn push_and(out: &mut String, units: &[Query]) -> Result<(), AllocError>
-    ensures { OnOk result (string_bytes out.new ≡ string_bytes out.old ++ printed_and (queries_of (map tree_of units.now))) }
+    ensures { OnOk result (string_bytes out.new
+        ≡ string_bytes out.old ++ printed_and (queries_of (map tree_of units.now))) }
 {
     match units {
         [] => Ok(()),
@@ -102,7 +114,8 @@ fn push_and(out: &mut String, units: &[Query]) -> Result<(), AllocError>
 #[cycle(push)]
 #[tactic(auto, using(crate::proofs::Sizes::member_falls))]
 fn push_more_units(out: &mut String, units: &[Query]) -> Result<(), AllocError>
-    ensures { OnOk result (string_bytes out.new ≡ string_bytes out.old ++ printed_and_more (queries_of (map tree_of units.now))) }
+    ensures { OnOk result (string_bytes out.new
+        ≡ string_bytes out.old ++ printed_and_more (queries_of (map tree_of units.now))) }
 {
     for unit in units {
         out.push(' ')?;
@@ -114,7 +127,8 @@ fn push_more_units(out: &mut String, units: &[Query]) -> Result<(), AllocError>
 #[cycle(push)]
 #[tactic(auto, using(crate::proofs::Sizes::member_falls))]
 fn push_or(out: &mut String, members: &[Query]) -> Result<(), AllocError>
-    ensures { OnOk result (string_bytes out.new ≡ string_bytes out.old ++ printed_or (queries_of (map tree_of members.now))) }
+    ensures { OnOk result (string_bytes out.new
+        ≡ string_bytes out.old ++ printed_or (queries_of (map tree_of members.now))) }
 {
     match members {
         [] => Ok(()),
@@ -128,7 +142,8 @@ fn push_or(out: &mut String, members: &[Query]) -> Result<(), AllocError>
 #[cycle(push)]
 #[tactic(auto, using(crate::proofs::Sizes::member_falls))]
 fn push_more_members(out: &mut String, members: &[Query]) -> Result<(), AllocError>
-    ensures { OnOk result (string_bytes out.new ≡ string_bytes out.old ++ printed_or_more (queries_of (map tree_of members.now))) }
+    ensures { OnOk result (string_bytes out.new
+        ≡ string_bytes out.old ++ printed_or_more (queries_of (map tree_of members.now))) }
 {
     for member in members {
         out.push(',')?;
@@ -160,7 +175,8 @@ fn op_text(op: Op) -> &'static str
 
 // Appends the parts, with a wildcard between each two.
 fn push_pieces(out: &mut String, pieces: &[Text]) -> Result<(), AllocError>
-    ensures { OnOk result (string_bytes out.new ≡ string_bytes out.old ++ printed_pieces pieces.now) }
+    ensures { OnOk result (string_bytes out.new
+        ≡ string_bytes out.old ++ printed_pieces pieces.now) }
 {
     match pieces {
         [] => Ok(()),

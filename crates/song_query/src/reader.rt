@@ -101,7 +101,8 @@ impl Reader {
 
     // Opens a parenthesis.
     fn open(&mut self) -> Result<(), Refusal>
-        ensures { Stepped (Some (here due empty_level (self.old.level ∷ self.old.outer))) (state_of self.new) result }
+        ensures { Stepped (Some (here due empty_level (self.old.level ∷ self.old.outer)))
+            (state_of self.new) result }
     {
         if self.outer.len() >= OPEN_PARENTHESES {
             return Err(Refusal::Deep);
@@ -169,7 +170,8 @@ impl Reader {
 
     // Reads the first character of the operator. A colon is the whole operator.
     fn operate(&mut self, c: char) -> Result<(), Refusal>
-        ensures { Stepped (operate (string_bytes self.old.partial.name) self.old.level self.old.outer c) (state_of self.new) result }
+        ensures { Stepped (operate (string_bytes self.old.partial.name) self.old.level
+            self.old.outer c) (state_of self.new) result }
     {
         match c {
             ':' => self.begin_value(Op::Is),
@@ -183,7 +185,8 @@ impl Reader {
 
     // Expects a colon next.
     fn begin_op(&mut self, op: Op)
-        ensures { state_of self.new ≡ here (begun (string_bytes self.old.partial.name) op) self.old.level self.old.outer }
+        ensures { state_of self.new ≡ here
+            (begun (string_bytes self.old.partial.name) op) self.old.level self.old.outer }
     {
         self.partial.op = op;
         self.place = Place::Begun;
@@ -202,7 +205,8 @@ impl Reader {
 
     // Expects the value of the condition next.
     fn begin_value(&mut self, op: Op)
-        ensures { state_of self.new ≡ here (valued (string_bytes self.old.partial.name) op [] []) self.old.level self.old.outer }
+        ensures { state_of self.new ≡ here
+            (valued (string_bytes self.old.partial.name) op [] []) self.old.level self.old.outer }
     {
         self.partial.op = op;
         self.partial.pieces = Texts::new(self.alloc);
@@ -232,7 +236,11 @@ impl Reader {
     }
 
     fn end_condition(&mut self) -> Result<(), AllocError>
-        ensures { OnOk result (state_of self.new ≡ here close (with_unit (cond_of (string_bytes self.old.partial.name) self.old.partial.op (self.old.partial.pieces ++ string_bytes self.old.partial.piece ∷ [])) self.old.level) self.old.outer) }
+        ensures { OnOk result (state_of self.new
+            ≡ here close (with_unit (cond_of
+            (string_bytes self.old.partial.name) self.old.partial.op
+            (self.old.partial.pieces ++ string_bytes self.old.partial.piece ∷ []))
+            self.old.level) self.old.outer) }
     {
         self.partial.end_piece(self.alloc)?;
         let cond = self.partial.cond(self.alloc)?;

@@ -57,7 +57,8 @@ fn take_all(reader: &mut Reader, text: &str) -> Result<(), QueryError>
 
 // Returns the query of a text of which all characters were read, if a query may end there.
 fn ended(reader: Reader, end: u64) -> Result<Query, QueryError>
-    ensures { (text : List ℕ) → length text ≡ end → run start text ≡ Some (state_of reader) → IsShallow text (length text)
+    ensures { (text : List ℕ) → length text ≡ end → run start text ≡ Some (state_of reader)
+        → IsShallow text (length text)
         → length text ≤ query_bytes → Answers text result }
 {
     if !reader.is_end() {

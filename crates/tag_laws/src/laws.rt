@@ -44,7 +44,8 @@ pub fn bytes_have_one_first_fault()
 /// A reader that refuses the bytes that it was fed returns their first fault, unless an allocation failed. A reader
 /// that does not refuse them was fed bytes without a fault.
 pub fn readers_refuse_the_first_fault()
-    ensures refused { (fed : List ℕ) (handed : List Event) (r : Reader) (e : StreamError) → Tells fed handed r
+    ensures refused { (fed : List ℕ) (handed : List Event) (r : Reader) (e : StreamError)
+        → Tells fed handed r
         → r.error ≡ Some e → e ≢ stream.Memory → IsFirstFault r.rows r.limit fed e }
     ensures sound { (fed : List ℕ) (handed : List Event) (r : Reader) → Tells fed handed r
         → r.error ≡ None → HasNoFault r.rows r.limit fed }
@@ -55,7 +56,8 @@ pub fn readers_refuse_the_first_fault()
 pub fn a_text_stops_at_one_line()
     ensures line { (rows : List CodeRow) (text : List ℕ) (m n : ℕ)
         → StopsBehind rows text m → StopsBehind rows text n → m ≡ n }
-    ensures cause { (rows : List CodeRow) (text : List ℕ) (e f : ShowError) → Explains rows text e → Explains rows text f
+    ensures cause { (rows : List CodeRow) (text : List ℕ) (e f : ShowError) → Explains rows text e
+        → Explains rows text f
         → e ≢ show.Memory → f ≢ show.Memory → e ≡ f }
 {}
 

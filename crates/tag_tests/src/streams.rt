@@ -49,7 +49,8 @@ fn new_reader(alloc: Global) -> Result<DmapReader, AllocError>
 /// Feeds a chunk. Of the contract of `feed` a test's proof needs only the counts.
 fn fed(reader: &mut DmapReader, piece: &[u8]) -> Result<usize, StreamError>
     requires { reader.old.error ≡ None → taken reader.old + length piece.now < 2 ^ 64 }
-    ensures error { MatchResult result (λ _. reader.new.error ≡ None) (λ e. reader.new.error ≡ Some e) }
+    ensures error { MatchResult result (λ _. reader.new.error ≡ None)
+        (λ e. reader.new.error ≡ Some e) }
     ensures within { IfOk result (λ n. n ≤ length piece.now) }
     ensures count { IfOk result (λ n. taken reader.new ≡ taken reader.old + n) }
 {

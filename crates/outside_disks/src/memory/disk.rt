@@ -88,7 +88,8 @@ impl MemDisk {
         failing: &[u64],
     ) -> Result<MemDisk, AllocError>
         ensures bytes { IfOk result (λ disk. bytes_of disk ≡ start.now) }
-        ensures safe { IfOk result (λ disk. (image : _) → images_of disk image → image ≡ start.now) }
+        ensures safe { IfOk result (λ disk. (image : _) → images_of disk image
+            → image ≡ start.now) }
         ensures calls { IfOk result (λ disk. calls_of disk ≡ []) }
         ensures failing_calls { IfOk result (λ disk. failing_calls disk ≡ failing.now) }
         ensures name { IfOk result (λ disk. name_of disk ≡ []) }
@@ -169,7 +170,8 @@ impl MemDisk {
     // Returns whether there is capacity for one more call, which writes `len` bytes.
     fn has_record(&self, len: usize) -> bool
         ensures calls { result ≡ true → vec_len self.now.calls < vec_capacity self.now.calls }
-        ensures pieces { result ≡ true → vec_len self.now.pieces + len ≤ vec_capacity self.now.pieces }
+        ensures pieces { result ≡ true
+            → vec_len self.now.pieces + len ≤ vec_capacity self.now.pieces }
     {
         self.calls.len() < self.calls.capacity()
             && len <= self.pieces.capacity() - self.pieces.len()
@@ -178,12 +180,15 @@ impl MemDisk {
     // Records a call, and counts an error if it is set to fail.
     fn record(&mut self, op: DiskOp, at: u64, len: usize, piece: &[u8]) -> Result<(), Failed>
         requires calls { vec_len self.old.calls < vec_capacity self.old.calls }
-        requires pieces { vec_len self.old.pieces + length piece.now ≤ vec_capacity self.old.pieces }
+        requires pieces { vec_len self.old.pieces + length piece.now
+            ≤ vec_capacity self.old.pieces }
         ensures stand_stays { self.new.stand ≡ self.old.stand }
         ensures name_stays { self.new.name ≡ self.old.name }
         ensures adds { AddsCall self.old.stand self.old.calls.items self.new.calls.items }
-        ensures recorded { calls_of self.new ≡ calls_of self.old ++ (op, at, len, is_ok result) ∷ [] }
-        ensures fails { IsErr result ↔ Contains (failing_calls self.old) (length (calls_of self.old) + 1) }
+        ensures recorded { calls_of self.new
+            ≡ calls_of self.old ++ (op, at, len, is_ok result) ∷ [] }
+        ensures fails { IsErr result
+            ↔ Contains (failing_calls self.old) (length (calls_of self.old) + 1) }
         ensures count { CountsFaults self.old.faults self.new.faults result }
     {
         let number = self.calls.len() as u64 + 1;
@@ -262,9 +267,11 @@ impl Disk for MemDisk {
     fn write_at(&mut self, at: u64, piece: &[u8]) -> Result<(), Failed>
         requires some { 0 < length piece.now }
         requires inside { at ≤ length (bytes_of self.old) }
-        ensures written { OnOk result (bytes_of self.new ≡ overlaid (bytes_of self.old) at piece.now) }
+        ensures written { OnOk result
+            (bytes_of self.new ≡ overlaid (bytes_of self.old) at piece.now) }
         ensures left { OnErr result (bytes_of self.new ≡ bytes_of self.old) }
-        ensures torn { Follows (Torn at (length piece.now)) (images_of self.old) (images_of self.new) }
+        ensures torn { Follows (Torn at (length piece.now)) (images_of self.old)
+            (images_of self.new) }
         ensures far { 2 ^ 63 ≤ at + length piece.now → IsErr result }
         ensures undone { 2 ^ 63 ≤ at + length piece.now
             → (bytes_of self.new ≡ bytes_of self.old) × NoMore (images_of self.old) (images_of self.new) }
@@ -300,7 +307,8 @@ impl Disk for MemDisk {
     }
 
     fn sync(&mut self) -> Result<(), Failed>
-        ensures safe { OnOk result ((image : _) → images_of self.new image → image ≡ bytes_of self.new) }
+        ensures safe { OnOk result ((image : _) → images_of self.new image
+            → image ≡ bytes_of self.new) }
         ensures bytes_stay { bytes_of self.new ≡ bytes_of self.old }
         ensures images_stay { NoMore (images_of self.old) (images_of self.new) }
         ensures name_stays { name_of self.new ≡ name_of self.old }

@@ -102,7 +102,8 @@ impl Shelf {
 
     /// Keeps the bytes of a disk under its name.
     pub(crate) fn close(&mut self, disk: MemDisk)
-        ensures closed { contents_in self.new ≡ finite.insert (contents_in self.old) (name_of disk) (bytes_of disk) }
+        ensures closed { contents_in self.new
+            ≡ finite.insert (contents_in self.old) (name_of disk) (bytes_of disk) }
         ensures asked_stays { asked_in self.new ≡ asked_in self.old }
     {
         disk.close(&mut self.closed);

@@ -62,7 +62,8 @@ impl Stand {
         changes: usize,
     ) -> Result<Stand, AllocError>
         ensures bytes { IfOk result (λ stand. bytes_in stand ≡ start.now) }
-        ensures safe { IfOk result (λ stand. (image : _) → IsImage stand image → image ≡ start.now) }
+        ensures safe { IfOk result (λ stand. (image : _) → IsImage stand image
+            → image ≡ start.now) }
         ensures changes { IfOk result (λ stand. pending_room stand ≡ changes) }
     {
         let room = room.max(start.len());
@@ -121,7 +122,8 @@ impl Stand {
         requires inside { at ≤ length (bytes_in self.old) }
         requires room { at + length piece.now ≤ room_in self.old }
         requires changes { 0 < pending_room self.old }
-        ensures bytes { bytes_in self.new ≡ (if is_done then overlaid (bytes_in self.old) at piece.now else bytes_in self.old) }
+        ensures bytes { bytes_in self.new
+            ≡ (if is_done then overlaid (bytes_in self.old) at piece.now else bytes_in self.old) }
         ensures torn { Follows (Torn at (length piece.now)) (IsImage self.old) (IsImage self.new) }
     {
         self.pending.push_reserved(Change::Write {
@@ -137,7 +139,8 @@ impl Stand {
     pub(crate) fn cut(&mut self, len: u64, is_done: bool)
         requires inside { len ≤ length (bytes_in self.old) }
         requires changes { 0 < pending_room self.old }
-        ensures bytes { bytes_in self.new ≡ (if is_done then take len (bytes_in self.old) else bytes_in self.old) }
+        ensures bytes { bytes_in self.new
+            ≡ (if is_done then take len (bytes_in self.old) else bytes_in self.old) }
         ensures torn { Follows (CutShort len) (IsImage self.old) (IsImage self.new) }
     {
         self.pending.push_reserved(Change::Cut { len });

@@ -35,7 +35,8 @@ impl<T: Drop> BoundedLog<T> {
     }
 
     pub(crate) fn keep(&mut self, item: T)
-        ensures items { kept_items self.new ≡ keeps (kept_items self.old) (kept_room self.old) (item ∷ []) }
+        ensures items { kept_items self.new
+            ≡ keeps (kept_items self.old) (kept_room self.old) (item ∷ []) }
         ensures room { kept_room self.new ≡ kept_room self.old - 1 }
     {
         if self.items.len() < self.items.capacity() {

@@ -126,7 +126,8 @@ impl Source for MemLink {
     fn read(&mut self, room: &mut [u8]) -> Result<usize, Failed>
         requires { 0 < length room.old }
         ensures within { ReadsAtMost result room.new }
-        ensures moved { ReadConsumes (Some (left_of (source_in self.old))) (Some (left_of (source_in self.new))) result room.new }
+        ensures moved { ReadConsumes (Some (left_of (source_in self.old)))
+            (Some (left_of (source_in self.new))) result room.new }
         ensures end { IfOk result (λ n. AnswersEnd (Some (left_of (source_in self.old))) n) }
         ensures beside { sink_in self.new ≡ sink_in self.old }
         ensures count { CountsFaults self.old.faults self.new.faults result }
@@ -159,9 +160,11 @@ impl Sink for MemLink {
         requires { 0 < length piece.now }
         ensures some { IfOk result (λ n. 0 < n) }
         ensures within { IfOk result (λ n. n ≤ length piece.now) }
-        ensures taken_grows { WriteAppends (Some (taken_of (sink_in self.old))) (Some (taken_of (sink_in self.new))) result piece.now }
+        ensures taken_grows { WriteAppends (Some (taken_of (sink_in self.old)))
+            (Some (taken_of (sink_in self.new))) result piece.now }
         ensures sure { 0 < sure_room_of (sink_in self.old) → IsOk result }
-        ensures sure_stays { IfOk result (λ n. sure_room_of (sink_in self.old) ≤ sure_room_of (sink_in self.new) + n) }
+        ensures sure_stays { IfOk result
+            (λ n. sure_room_of (sink_in self.old) ≤ sure_room_of (sink_in self.new) + n) }
         ensures beside { source_in self.new ≡ source_in self.old }
         ensures count { CountsFaults self.old.faults self.new.faults result }
         ensures amount { IfOk result (λ n.

@@ -124,12 +124,14 @@ impl Listener for MemListener {
     ghost written = { written_of };
 
     fn accept(&mut self) -> Result<Option<MemLink>, Failed>
-        ensures next { IfOk result (Accepts (λ link. Some (left_of (source_in link))) (λ link. Some (taken_of (sink_in link)))
+        ensures next { IfOk result (Accepts (λ link. Some (left_of (source_in link)))
+            (λ link. Some (taken_of (sink_in link)))
             (Some (coming_of self.old)) (Some (coming_of self.new))) }
         ensures fresh { IfOk result (λ link. IfSome link (λ l. faults_of l ≡ 0)) }
         ensures unwritten { IfOk result (λ link. IfSome link (λ l.
             BeginsEmpty (written_of self.old) (Some (taken_of (sink_in l))))) }
-        ensures first { IfOk result (λ link. coming_links self.old ≡ option_to_list link ++ coming_links self.new) }
+        ensures first { IfOk result (λ link. coming_links self.old
+            ≡ option_to_list link ++ coming_links self.new) }
         ensures failed { OnErr result (coming_links self.new ≡ coming_links self.old) }
         ensures fails { IsErr result ↔ Contains (failing_calls self.old) (next_call self.old) }
         ensures called { CountsCall self.old self.new }
@@ -150,7 +152,8 @@ impl Listener for MemListener {
         ensures coming_stays { coming_links self.new ≡ coming_links self.old }
         ensures written_grows { GrowsByTold (written_of self.old) (written_of self.new)
             (returned (Some (taken_of (sink_in link))) (faults_of link)) }
-        ensures told { written_of self.new ≡ keeps (written_of self.old) (room_of self.old) (returned_link link ∷ []) }
+        ensures told { written_of self.new
+            ≡ keeps (written_of self.old) (room_of self.old) (returned_link link ∷ []) }
         ensures room { room_of self.new ≡ room_of self.old - 1 }
         ensures count { self.new.faults ≡ self.old.faults }
     {

@@ -133,7 +133,8 @@ impl MemNet {
     fn ask(&mut self, place: &str, listeners: u32) -> Result<(), Failed>
         ensures fails { IsErr result ↔ Contains (failing_calls self.old) (next_call self.old) }
         ensures asks { Grows (asked_of self.old) (asked_of self.new) ((place.now, listeners) ∷ []) }
-        ensures told { asked_of self.new ≡ with_place (asked_of self.old) (asked_room self.old) place.now listeners }
+        ensures told { asked_of self.new
+            ≡ with_place (asked_of self.old) (asked_room self.old) place.now listeners }
         ensures asked_room { asked_room self.old ≤ asked_room self.new + 1 }
         ensures called { CountsCall self.old self.new }
         ensures written_stays { self.new.written ≡ self.old.written }
@@ -199,15 +200,19 @@ impl Net for MemNet {
     fn listen(&mut self, place: &str, number: u32) -> Result<Vec<MemListener>, NetError>
         ensures as_many { IfOk result (λ ds. length ds.items ≡ number) }
         ensures fresh { IfOk result (λ ds. All (λ d. faults_at d ≡ 0) ds.items) }
-        ensures unwritten { IfOk result (λ ds. All (λ d. BeginsEmpty (written_of self.old) (written_at d)) ds.items) }
-        ensures links { IfOk result (λ ds. OpensListeners (Some (listener_inputs self.old)) (Some (listener_inputs self.new))
+        ensures unwritten { IfOk result
+            (λ ds. All (λ d. BeginsEmpty (written_of self.old) (written_at d)) ds.items) }
+        ensures links { IfOk result (λ ds. OpensListeners (Some (listener_inputs self.old))
+            (Some (listener_inputs self.new))
             (map (λ d. Some (coming_of d)) ds.items)) }
-        ensures first { IfOk result (λ ds. listeners_of self.old ≡ ds.items ++ listeners_of self.new) }
+        ensures first { IfOk result (λ ds. listeners_of self.old
+            ≡ ds.items ++ listeners_of self.new) }
         ensures failed { OnErr result (listeners_of self.new ≡ listeners_of self.old) }
         ensures fails { IsErrOf result NetError.Failed
             ↔ (Contains (failing_calls self.old) (next_call self.old) ⊎ (length (listeners_of self.old) < number) ⊎ (2 ^ 64 ≤ open_of self.old + number)) }
         ensures asks { Grows (asked_of self.old) (asked_of self.new) ((place.now, number) ∷ []) }
-        ensures told { asked_of self.new ≡ with_place (asked_of self.old) (asked_room self.old) place.now number }
+        ensures told { asked_of self.new
+            ≡ with_place (asked_of self.old) (asked_room self.old) place.now number }
         ensures asked_room { asked_room self.old ≤ asked_room self.new + 1 }
         ensures called { CountsCall self.old self.new }
         ensures written_stays { written_of self.new ≡ written_of self.old }
@@ -230,7 +235,8 @@ impl Net for MemNet {
 
     fn connect(&mut self, place: &str) -> Result<MemLink, Failed>
         ensures fresh { IfOk result (λ link. faults_of link ≡ 0) }
-        ensures unwritten { IfOk result (λ link. BeginsEmpty (written_of self.old) (Some (taken_of (sink_in link)))) }
+        ensures unwritten { IfOk result
+            (λ link. BeginsEmpty (written_of self.old) (Some (taken_of (sink_in link)))) }
         ensures input { IfOk result (λ link. IfSome (input_next self.old)
             (λ input. Some (left_of (source_in link)) ≡ Some input)) }
         ensures first { IfOk result (λ link. links_of self.old ≡ link ∷ links_of self.new) }
@@ -238,7 +244,8 @@ impl Net for MemNet {
         ensures fails { IsErr result
             ↔ (Contains (failing_calls self.old) (next_call self.old) ⊎ (links_of self.old ≡ []) ⊎ (2 ^ 64 ≤ open_of self.old + 1)) }
         ensures asks { Grows (asked_of self.old) (asked_of self.new) ((place.now, 0) ∷ []) }
-        ensures told { asked_of self.new ≡ with_place (asked_of self.old) (asked_room self.old) place.now 0 }
+        ensures told { asked_of self.new
+            ≡ with_place (asked_of self.old) (asked_room self.old) place.now 0 }
         ensures asked_room { asked_room self.old ≤ asked_room self.new + 1 }
         ensures called { CountsCall self.old self.new }
         ensures written_stays { written_of self.new ≡ written_of self.old }
@@ -263,7 +270,8 @@ impl Net for MemNet {
     fn close_listener(&mut self, listener: MemListener)
         ensures asked_stays { asked_of self.new ≡ asked_of self.old }
         ensures asked_room_stays { asked_room self.new ≡ asked_room self.old }
-        ensures written_grows { GrowsByTold (written_of self.old) (written_of self.new) (written_at listener) }
+        ensures written_grows { GrowsByTold (written_of self.old) (written_of self.new)
+            (written_at listener) }
         ensures told { written_of self.new
             ≡ option_and_then (keeps (written_of self.old) (written_room self.old)) (written_at listener) }
         ensures links_stay { listeners_of self.new ≡ listeners_of self.old }
@@ -307,11 +315,15 @@ fn take_first(
 ) -> Result<Vec<MemListener>, AllocError>
     requires { number ≤ vec_len listeners.old }
     ensures as_many { IfOk result (λ first. length first.items ≡ number) }
-    ensures first { IfOk result (λ first. listeners.old.items ≡ first.items ++ listeners.new.items) }
-    ensures links { IfOk result (λ first. OpensListeners (Some (map coming_of listeners.old.items)) (Some (map coming_of listeners.new.items))
+    ensures first { IfOk result (λ first. listeners.old.items
+        ≡ first.items ++ listeners.new.items) }
+    ensures links { IfOk result (λ first. OpensListeners (Some (map coming_of listeners.old.items))
+        (Some (map coming_of listeners.new.items))
         (map (λ d. Some (coming_of d)) first.items)) }
-    ensures new_rest { All is_new_listener listeners.old.items → All is_new_listener listeners.new.items }
-    ensures new_first { All is_new_listener listeners.old.items → IfOk result (λ first. All is_new_listener first.items) }
+    ensures new_rest { All is_new_listener listeners.old.items
+        → All is_new_listener listeners.new.items }
+    ensures new_first { All is_new_listener listeners.old.items
+        → IfOk result (λ first. All is_new_listener first.items) }
     ensures err { OnErr result (listeners.new.items ≡ listeners.old.items) }
 {
     let later = listeners.split_off(number)?;

@@ -51,7 +51,8 @@ impl MemSink {
         ensures faults { IfOk result (λ sink. ⟦<MemSink as Faulted>⟧.faults sink ≡ 0) }
         ensures room { IfOk result (λ sink. room_left sink ≡ room) }
         // If no call is set to fail, a write within the capacity succeeds.
-        ensures sure { IfOk result (λ sink. failing.now ≡ [] → ⟦<MemSink as Sink>⟧.sure_room sink ≡ room) }
+        ensures sure { IfOk result (λ sink. failing.now ≡ []
+            → ⟦<MemSink as Sink>⟧.sure_room sink ≡ room) }
         ensures pieces { IfOk result (λ sink. pieces_of sink ≡ per_call) }
         ensures failing_calls { IfOk result (λ sink. failing_calls sink ≡ failing.now) }
         ensures first_call { IfOk result (λ sink. next_call sink ≡ 1) }
@@ -106,7 +107,8 @@ impl Sink for MemSink {
         requires { 0 < length piece.now }
         ensures some { IfOk result (λ n. 0 < n) }
         ensures within { IfOk result (λ n. n ≤ length piece.now) }
-        ensures taken_grows { WriteAppends (Some (taken_of self.old)) (Some (taken_of self.new)) result piece.now }
+        ensures taken_grows { WriteAppends (Some (taken_of self.old))
+            (Some (taken_of self.new)) result piece.now }
         ensures sure { 0 < sure_room_of self.old → IsOk result }
         ensures sure_stays { IfOk result (λ n. sure_room_of self.old ≤ sure_room_of self.new + n) }
         ensures count { CountsFaults self.old.faults self.new.faults result }

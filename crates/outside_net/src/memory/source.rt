@@ -48,7 +48,8 @@ impl MemSource {
         failing: &[u64],
     ) -> Result<MemSource, AllocError>
         requires { 0 < per_call }
-        ensures left { IfOk result (λ source. ⟦<MemSource as Source>⟧.left source ≡ Some bytes.now) }
+        ensures left { IfOk result (λ source. ⟦<MemSource as Source>⟧.left source
+            ≡ Some bytes.now) }
         ensures faults { IfOk result (λ source. ⟦<MemSource as Faulted>⟧.faults source ≡ 0) }
         ensures pieces { IfOk result (λ source. pieces_of source ≡ per_call) }
         ensures failing_calls { IfOk result (λ source. failing_calls source ≡ failing.now) }
@@ -79,7 +80,8 @@ impl Source for MemSource {
     fn read(&mut self, room: &mut [u8]) -> Result<usize, Failed>
         requires { 0 < length room.old }
         ensures within { ReadsAtMost result room.new }
-        ensures moved { ReadConsumes (Some (left_of self.old)) (Some (left_of self.new)) result room.new }
+        ensures moved { ReadConsumes (Some (left_of self.old))
+            (Some (left_of self.new)) result room.new }
         ensures end { IfOk result (λ n. AnswersEnd (Some (left_of self.old)) n) }
         ensures count { CountsFaults self.old.faults self.new.faults result }
         ensures amount { IfOk result (λ n.
