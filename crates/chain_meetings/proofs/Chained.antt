@@ -23,9 +23,9 @@ use Rattle.relayed_rows.specs.Libraries.{IsLibrary}
 use Rattle.relayed_rows.specs.Relays.{relay_of, steps_between}
 use Rattle.relay_share.specs.Rounds.{followed}
 use Rattle.relay_share.proofs.ShareLibraries.{libraries_are_the_shares}
-use Rattle.served_mirrors.specs.Mirrors.{CanBeAsked}
-use Rattle.served_mirrors.proofs.Meeting.{walkers_hold_the_share, written_before}
-use Rattle.served_mirrors.proofs.Points.{last_begins, rise_falls}
+use Rattle.share_meetings.specs.Mirrors.{CanBeAsked}
+use Rattle.share_meetings.proofs.Meeting.{walkers_hold_the_share, written_before}
+use Rattle.share_meetings.proofs.Prefixes.{last_begins, rise_falls}
 use Rattle.command_core.specs.Seen.{NetSeen, OutputSeen}
 use Rattle.link_commands.specs.Linked.{LinkSeen, start_of}
 use Rattle.link_commands.proofs.LinkedFacts.{owed_is}

@@ -7,7 +7,7 @@ use Rattle.share_history.specs.Histories.{all_edits, batches, edits}
 use Rattle.share_history.specs.Rows.{library}
 use Rattle.share_history.proofs.EditFacts.{all_edits-append, batches-append}
 use Rattle.followed_shares.specs.Served.{Rise, first_of}
-use Rattle.served_mirrors.proofs.Points.{IsPrefix, prefix_both, prefix_self}
+use Rattle.share_meetings.proofs.Prefixes.{IsPrefix, prefix_both, prefix_self}
 use Rattle.relayed_rows.specs.Libraries.{IsLibrary, Library}
 use Rattle.relayed_rows.specs.Relays.{steps_between}
 use Rattle.relayed_rows.proofs.LibraryFacts.{nothing_is_library}

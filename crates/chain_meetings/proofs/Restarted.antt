@@ -28,7 +28,7 @@ use Rattle.edit_file.proofs.Once.{one_list}
 use Rattle.kept_library.specs.Closing.{LeavesAt}
 use Rattle.kept_library.specs.Opening.{StandsAt, bytes_at}
 use Rattle.mirror_core.specs.Mirrored.{Mirrored}
-use Rattle.served_mirrors.specs.Mirrors.{HeldBefore}
+use Rattle.share_meetings.specs.Mirrors.{HeldBefore}
 use Rattle.command_core.specs.ReadRecords.{HasReadAs}
 use Rattle.command_core.specs.Seen.{NetSeen, Told}
 use Rattle.serve_command.specs.declared.terms.Serving.{Serving}

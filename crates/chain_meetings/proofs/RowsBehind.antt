@@ -15,7 +15,7 @@ use Rattle.share_history.proofs.EditFacts.{batches-append, batches-at_revision}
 use Rattle.share_history.proofs.RowFacts.{rows_selected}
 use Rattle.followed_shares.specs.Served.{Rise}
 use Rattle.relayed_rows.specs.Libraries.{Library}
-use Rattle.served_mirrors.proofs.Points.{IsPrefix, prefix_revision}
+use Rattle.share_meetings.proofs.Prefixes.{IsPrefix, prefix_revision}
 use Rattle.share_meetings.specs.Shown.{AreRising}
 use Rattle.share_meetings.specs.Texts.{rows_text}
 use Rattle.link_commands.specs.RoundLines as lines

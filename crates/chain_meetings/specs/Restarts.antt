@@ -8,7 +8,7 @@ use Rattle.share_history.specs.Histories.{batches, revision, up_to}
 use Rattle.share_history.specs.Mirror.{mirrored}
 use Rattle.share_core.specs.Opened.{if_filled, opened_with}
 use Rattle.mirror_core.specs.Mirrored.{Mirrored}
-use Rattle.served_mirrors.specs.Mirrors.{HeldBefore}
+use Rattle.share_meetings.specs.Mirrors.{HeldBefore}
 use Rattle.command_core.specs.ReadRecords.{HasReadAs}
 use Rattle.command_core.specs.Seen.{Told}
 use Rattle.serve_command.specs.declared.terms.Serving.{Serving}

@@ -30,7 +30,7 @@ use Rattle.command_core.specs.Endings.{Done, Ending, LineCut, OutputCut, Refused
 use Rattle.command_core.specs.Seen.{NetSeen}
 use Rattle.mirror_client.specs.declared.pushing.Pushed.{Pushed}
 use Rattle.mirror_client.specs.Pushes.{UnexpectedPush, push_text}
-use Rattle.served_mirrors.proofs.Answering.{ReadsAs}
+use Rattle.share_meetings.proofs.Answering.{ReadsAs}
 use Rattle.link_commands.specs.declared.edit.EditFault.{EditFault}
 use Rattle.link_commands.specs.declared.edit.EditFault.TheVariants as edit_fault
 use Rattle.link_commands.specs.EditShare.{HasBody, HasPushed, IsEditDone, IsUnsent, StopsEdit, StopsSending, edit_meaning}

@@ -38,8 +38,8 @@ use Rattle.mirror_client.proofs.TellingFacts.{tags_once}
 use Rattle.followed_shares.proofs.FilterShown.{few, revision_tag}
 use Rattle.followed_shares.proofs.HeadsRead.{tag_read}
 use Rattle.followed_shares.proofs.Successes.{answer_is, good_status, success_bytes, success_is}
-use Rattle.served_mirrors.proofs.Granted.{Goes, goes_so}
-use Rattle.served_mirrors.proofs.Sends.{IsGranted}
+use Rattle.share_meetings.proofs.Granted.{Goes, goes_so}
+use Rattle.share_meetings.proofs.Sends.{IsGranted}
 use Rattle.edit_meetings.specs.EditMeetings.{KeptEditsStay}
 use Rattle.edit_meetings.proofs.LinesRead.{line_read}
 use Rattle.edit_meetings.proofs.OneReply.{HasReply}

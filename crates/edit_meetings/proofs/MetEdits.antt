@@ -37,7 +37,7 @@ use Rattle.command_core.specs.Seen.{Told}
 use Rattle.mirror_client.specs.declared.pushing.Pushed.{Pushed}
 use Rattle.mirror_client.specs.declared.pushing.Pushed.TheVariants as pushed
 use Rattle.mirror_client.specs.Pushes.{push_text}
-use Rattle.served_mirrors.proofs.Answering.{ReadsAs}
+use Rattle.share_meetings.proofs.Answering.{ReadsAs}
 use Rattle.link_commands.specs.declared.edit.EditFault.{EditFault}
 use Rattle.link_commands.specs.declared.edit.EditFault.TheVariants as edit_fault
 use Rattle.link_commands.specs.EditShare.{HasBody, HasPushed, IsEditDone, StopsEdit, edit_line, edit_meaning, edit_status, told_of}

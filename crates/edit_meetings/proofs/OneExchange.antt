@@ -13,7 +13,7 @@ use Rattle.command_core.specs.Seen.{NetSeen}
 use Rattle.mirror_client.specs.declared.pushing.Pushed.{Pushed}
 use Rattle.mirror_client.specs.Pushes.{push_text}
 use Rattle.followed_shares.proofs.FilterShown.{owed_split}
-use Rattle.served_mirrors.proofs.Answering.{ReadsAs}
+use Rattle.share_meetings.proofs.Answering.{ReadsAs}
 use Rattle.link_commands.specs.EditShare.{HasPushed}
 use Rattle.link_commands.specs.Linked.{HasLinked, LinkSeen, start_of}
 use Rattle.link_commands.proofs.LinkedFacts.{left_is, owed_is}

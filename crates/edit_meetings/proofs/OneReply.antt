@@ -27,8 +27,8 @@ use Rattle.share_server.specs.Ends.{Breaks, EndsAtEnd, EndsInside, Parts, WantsM
 use Rattle.share_server.specs.Replies.{answer_bytes, due, replies, replies_from}
 use Rattle.share_server.specs.Served.{AreServed, IsGivenUp, IsReplied, IsServed, answered_on, at_point}
 use Rattle.share_server.proofs.Endings.{parts_served}
-use Rattle.served_mirrors.specs.Links.{ServedLink}
-use Rattle.served_mirrors.proofs.Answering.{ReadsAs, open_ask}
+use Rattle.share_meetings.specs.Links.{ServedLink}
+use Rattle.share_meetings.proofs.Answering.{ReadsAs, open_ask}
 
 -- ---- what was sent
 

@@ -11,7 +11,7 @@ use Rattle.http_client.specs.Requests.{HasListNumber, IsHost, IsNamed, IsWithinL
 use Rattle.http_client.specs.Targets.{IsText}
 use Rattle.mirror_core.specs.Mirrored.{Mirrored}
 use Rattle.link_commands.specs.Looks.{AsksMirror, AsksQuery, meta_asked}
-use Rattle.served_mirrors.specs.Mirrors.{CanBeAsked}
+use Rattle.share_meetings.specs.Mirrors.{CanBeAsked}
 use Rattle.query_laws.proofs.Utf8Texts.{printed_in_utf8}
 
 -- a query that was read has a text within the limits

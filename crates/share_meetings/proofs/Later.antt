@@ -15,8 +15,8 @@ use Rattle.mirror_client.specs.Laws.{AreAnswers, last_point}
 use Rattle.mirror_client.specs.Steps.{with_listings}
 use Rattle.share_replies.specs.Settings.{Settings}
 use Rattle.followed_shares.specs.Served.{Rise}
-use Rattle.served_mirrors.specs.Mirrors.{AreListed, HeldBefore, HoldsLast, HoldsTheShare, IsListed}
-use Rattle.served_mirrors.proofs.Points.{last_begins}
+use Rattle.share_meetings.specs.Mirrors.{AreListed, HeldBefore, HoldsLast, HoldsTheShare, IsListed}
+use Rattle.share_meetings.proofs.Prefixes.{last_begins}
 use Rattle.share_crew.specs.Stints.{IsPart, Stint}
 use Rattle.serve_command.specs.declared.terms.Serving.{Serving}
 use Rattle.serve_command.specs.Runs as serve

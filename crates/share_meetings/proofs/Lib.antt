@@ -1,3 +1,13 @@
+pub mod Prefixes
+pub mod Sends
+pub mod Granted
+pub mod Asking
+pub mod Answering
+pub mod Standing
+pub mod Meeting
+pub mod Unstopped
+pub mod FirstRound
+pub mod ServedLinks
 pub mod AskedMirrors
 pub mod Points
 pub mod Lines

@@ -33,9 +33,9 @@ use Rattle.link_commands.specs.Meanings.{Happens, IsCutBehind, ending_status}
 use Rattle.link_commands.specs.RoundLines.{round_lines, shown_rows}
 use Rattle.link_commands.proofs.LinkedFacts.{owed_is}
 use Rattle.followed_shares.specs.Served.{Rise}
-use Rattle.served_mirrors.specs.Mirrors.{AreBehindLogin, AreListed, AreNew, HoldsLast, HoldsTheShare}
-use Rattle.served_mirrors.proofs.Meeting.{walkers_hold_the_share, written_before}
-use Rattle.served_mirrors.proofs.Points.{rise_short}
+use Rattle.share_meetings.specs.Mirrors.{AreBehindLogin, AreListed, AreNew, HoldsLast, HoldsTheShare}
+use Rattle.share_meetings.proofs.Meeting.{walkers_hold_the_share, written_before}
+use Rattle.share_meetings.proofs.Prefixes.{rise_short}
 use Rattle.share_meetings.specs.Laws.{FollowShowsAnyShare}
 use Rattle.share_meetings.specs.Meetings.{IsMade}
 use Rattle.share_meetings.specs.Shares.{IsOfShare}

@@ -7,7 +7,7 @@ use Rattle.share_history.specs.Listings.{Listing}
 use Rattle.share_replies.specs.Settings.{Settings}
 use Rattle.mirror_core.specs.Mirrored.{Mirrored}
 use Rattle.mirror_client.specs.Steps.{with_listings}
-use Rattle.served_mirrors.specs.Mirrors.{HeldBefore, HoldsTheShare}
+use Rattle.share_meetings.specs.Mirrors.{HeldBefore, HoldsTheShare}
 use Rattle.share_server.specs.declared.report.LinkReport.{LinkReport}
 use Rattle.command_core.specs.Seen.{NetSeen, OutputSeen, Told}
 use Rattle.link_commands.specs.FollowShare.{follow_meaning}

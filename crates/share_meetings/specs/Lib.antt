@@ -1,3 +1,7 @@
+pub mod Links
+pub mod Mirrors
+pub mod Examples
+pub mod MirrorLaws
 pub mod Texts
 pub mod Shown
 pub mod Meetings

@@ -5,7 +5,7 @@ use Rattle.share_asks.specs.declared.ask.Role.{Role}
 use Rattle.share_history.specs.Whole.{IsWhole}
 use Rattle.share_replies.specs.Settings.{Settings}
 use Rattle.share_server.specs.declared.report.LinkReport.{LinkReport}
-use Rattle.served_mirrors.specs.Links.{ServedLink}
+use Rattle.share_meetings.specs.Links.{ServedLink}
 
 -- The share left the history, and a worker served the connection over what it had seen of it.
 pub record IsOfShare (s : Settings) (h : List Entry) (report : LinkReport) (input output : List ℕ) : Type 0 where

@@ -19,7 +19,7 @@ use Rattle.link_commands.specs.declared.follow.FollowFault.{FollowFault}
 use Rattle.link_commands.specs.FollowShare.{follow_line, follow_status}
 use Rattle.link_commands.specs.Looks.{AsksQuery, meta_asked}
 use Rattle.link_commands.specs.Meanings.{IsCutBehind}
-use Rattle.served_mirrors.specs.Links.{IsReport}
+use Rattle.share_meetings.specs.Links.{IsReport}
 use Rattle.share_meetings.specs.Texts.{follow_text, last_of, line_at, lines_at, rows_text}
 
 -- each revision is above the one before, and none above the last of the share

@@ -1,7 +1,37 @@
-//! Laws of all runs of `serve`, `relay` and `follow` that met on a connection. Each function has an empty body; its
-//! contract is a theorem.
+//! Laws of what one end of a connection makes of what the other did: of all mirrors and the shares that they follow, and
+//! of all runs of `serve`, `relay` and `follow` that met. Each function has an empty body; its contract is a theorem.
 
 ghost use Rattle.share_meetings.specs.Laws.{FollowShowsAnyShare, LaterConnectionsBeginWell, RelaysAShare, ServesAShare};
+ghost use Rattle.share_meetings.specs.MirrorLaws.{EndedLinksAreServed, FollowersAreNotStopped, MirrorsAreServed, WalkersHoldTheShare, WorkersLinksAreServed};
+
+/// A connection that was served to its end is a `ServedLink`: it has the requests and the responses that the next laws are
+/// about.
+pub fn ended_links_are_served()
+    ensures { EndedLinksAreServed }
+{}
+
+/// So is each connection of a worker.
+pub fn workers_links_are_served()
+    ensures { WorkersLinksAreServed }
+{}
+
+/// A mirror that follows a share, in each of its stages, holds what the share had at the last listing that it applied.
+/// Each of its listings is the share's at a length of the one history, the first at or after the login, and each other one
+/// at a higher revision than the one before.
+pub fn walkers_hold_the_share()
+    ensures { WalkersHoldTheShare }
+{}
+
+/// A mirror whose requests were all answered with success is stopped only by a failed call on its connection or a failed
+/// allocation.
+pub fn followers_are_not_stopped()
+    ensures { FollowersAreNotStopped }
+{}
+
+/// There is a share that serves a mirror of all items to its end, whatever the mirror requests.
+pub fn mirrors_are_served()
+    ensures { MirrorsAreServed }
+{}
 
 /// A connection that a run of `serve` served is one of a share, with the history that the run left.
 pub fn runs_serve_a_share()

@@ -1,5 +1,5 @@
-//! What runs of `follow` write of a share over a connection that a run of `serve` or `relay` served. The crate has no
-//! code that runs; it joins the specifications of these commands by the laws of `served_mirrors`.
+//! What clients read of a share over a connection that it served: what a mirror holds, and what runs of `follow` write
+//! of a run of `serve` or `relay`. The crate has no code that runs; it joins the specifications of both ends.
 #![tactic(auto)]
 
 pub mod laws;

@@ -32,8 +32,8 @@ use Rattle.share_history.specs.Whole.{IsWhole}
 use Rattle.followed_shares.proofs.BodiesRead.{listing_body_read}
 use Rattle.followed_shares.proofs.FilterShown.{few, login_tag, revision_tag, table_tag}
 use Rattle.followed_shares.proofs.Successes.{empty_served, tag_served}
-use Rattle.served_mirrors.specs.Mirrors.{CanBeAsked}
-use Rattle.served_mirrors.proofs.Answering.{ReadsBack, Says, open_ask}
+use Rattle.share_meetings.specs.Mirrors.{CanBeAsked}
+use Rattle.share_meetings.proofs.Answering.{ReadsBack, Says, open_ask}
 
 -- ---- requests read back
 

@@ -39,12 +39,12 @@ use Rattle.share_history.specs.Whole.{IsWhole}
 use Rattle.followed_shares.proofs.BodiesRead.{listing_body_read}
 use Rattle.followed_shares.proofs.FilterShown.{few, login_tag, standard_back, table_tag}
 use Rattle.followed_shares.proofs.HeadsRead.{empty_read, tag_read}
-use Rattle.served_mirrors.specs.Examples.{new_mirror}
-use Rattle.served_mirrors.specs.Links.{AnsweredAll, ServedLink}
-use Rattle.served_mirrors.specs.Laws.{MirrorsAreServed}
-use Rattle.served_mirrors.specs.Mirrors.{CanBeAsked}
-use Rattle.served_mirrors.proofs.Answering.{open_ask}
-use Rattle.served_mirrors.proofs.Asking.{codes_back, login_back, logout_back, rows_back}
+use Rattle.share_meetings.specs.Examples.{new_mirror}
+use Rattle.share_meetings.specs.Links.{AnsweredAll, ServedLink}
+use Rattle.share_meetings.specs.MirrorLaws.{MirrorsAreServed}
+use Rattle.share_meetings.specs.Mirrors.{CanBeAsked}
+use Rattle.share_meetings.proofs.Answering.{open_ask}
+use Rattle.share_meetings.proofs.Asking.{codes_back, login_back, logout_back, rows_back}
 
 -- ---- the requests, and how the share answers them
 

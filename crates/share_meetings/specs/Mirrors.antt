@@ -16,7 +16,7 @@ use Rattle.http_client.specs.Targets.{IsText}
 use Rattle.mirror_core.specs.Mirrored.{Mirrored}
 use Rattle.mirror_client.specs.Laws.{AreAnswers, last_point}
 use Rattle.followed_shares.specs.Served.{Rise}
-use Rattle.served_mirrors.specs.Links.{IsReport}
+use Rattle.share_meetings.specs.Links.{IsReport}
 
 -- A server reads the requests of this mirror to this host as they were meant.
 pub record CanBeAsked (host : List ℕ) (m : Mirrored) : Type 0 where

@@ -27,7 +27,7 @@ use Rattle.share_server.specs.Passes.{Rises}
 use Rattle.share_server.specs.Replies.{replies, replies_from}
 use Rattle.share_server.specs.Served.{AreServed}
 use Rattle.share_server.proofs.Endings.{parts_served}
-use Rattle.served_mirrors.specs.Links.{AnsweredAll, IsReport, IsSuccess, ServedLink}
+use Rattle.share_meetings.specs.Links.{AnsweredAll, IsReport, IsSuccess, ServedLink}
 
 -- ---- bytes that grant nothing
 

@@ -41,15 +41,15 @@ use Rattle.share_history.specs.Whole.{IsWhole}
 use Rattle.followed_shares.proofs.Completes.{IsOutside, end_due, listing_due, number_due, stops_outside, table_due}
 use Rattle.followed_shares.proofs.FilterShown.{left_owed, login_tag, owed_split, revision_tag}
 use Rattle.followed_shares.proofs.Successes.{Begins, good_status, success_is}
-use Rattle.served_mirrors.specs.Laws.{FollowersAreNotStopped}
-use Rattle.served_mirrors.specs.Links.{IsSuccess}
-use Rattle.served_mirrors.specs.Mirrors.{CanBeAsked}
-use Rattle.served_mirrors.proofs.Answering.{ReadsBack, Says, open_ask}
-use Rattle.served_mirrors.proofs.Asking.{codes_back, codes_say, login_back, login_says, logout_back, logout_says, rows_back, rows_say, update_back, update_says}
-use Rattle.served_mirrors.proofs.Meeting.{written_before}
-use Rattle.served_mirrors.proofs.Points.{IsPrefix, answered_between, prefix_both, prefix_revision, prefix_taken, prefix_whole}
-use Rattle.served_mirrors.proofs.Sends.{IsComplete, Left, link_sends_all}
-use Rattle.served_mirrors.proofs.Standing.{Stands, base_word, walk}
+use Rattle.share_meetings.specs.MirrorLaws.{FollowersAreNotStopped}
+use Rattle.share_meetings.specs.Links.{IsSuccess}
+use Rattle.share_meetings.specs.Mirrors.{CanBeAsked}
+use Rattle.share_meetings.proofs.Answering.{ReadsBack, Says, open_ask}
+use Rattle.share_meetings.proofs.Asking.{codes_back, codes_say, login_back, login_says, logout_back, logout_says, rows_back, rows_say, update_back, update_says}
+use Rattle.share_meetings.proofs.Meeting.{written_before}
+use Rattle.share_meetings.proofs.Prefixes.{IsPrefix, answered_between, prefix_both, prefix_revision, prefix_taken, prefix_whole}
+use Rattle.share_meetings.proofs.Sends.{IsComplete, Left, link_sends_all}
+use Rattle.share_meetings.proofs.Standing.{Stands, base_word, walk}
 
 -- ---- the reply to the last request
 

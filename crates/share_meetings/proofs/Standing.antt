@@ -35,11 +35,11 @@ use Rattle.followed_shares.specs.Served.{Rise}
 use Rattle.share_history.specs.Whole.{IsWhole}
 use Rattle.followed_shares.proofs.BodiesRead.{listing_body_read, small_revision}
 use Rattle.followed_shares.proofs.FilterShown.{learned, split_on, tells}
-use Rattle.served_mirrors.specs.Mirrors.{AreBehindLogin, AreListed, AreNew, CanBeAsked, IsBehindLogin, IsListed}
-use Rattle.served_mirrors.proofs.Answering.{Answered, answered}
-use Rattle.served_mirrors.proofs.Asking.{codes_back, codes_say, login_back, login_says, logout_back, logout_says, rows_back, rows_say, told_session, update_back, update_says}
-use Rattle.served_mirrors.proofs.Points.{IsPrefix, answers_more, as_many_points, last_base, last_base_more, listed_more, prefix_both, prefix_revision, prefix_taken, prefix_whole, rise_more, rise_on}
-use Rattle.served_mirrors.proofs.Sends.{Left}
+use Rattle.share_meetings.specs.Mirrors.{AreBehindLogin, AreListed, AreNew, CanBeAsked, IsBehindLogin, IsListed}
+use Rattle.share_meetings.proofs.Answering.{Answered, answered}
+use Rattle.share_meetings.proofs.Asking.{codes_back, codes_say, login_back, login_says, logout_back, logout_says, rows_back, rows_say, told_session, update_back, update_says}
+use Rattle.share_meetings.proofs.Prefixes.{IsPrefix, answers_more, as_many_points, last_base, last_base_more, listed_more, prefix_both, prefix_revision, prefix_taken, prefix_whole, rise_more, rise_on}
+use Rattle.share_meetings.proofs.Sends.{Left}
 
 -- ---- histories behind a login, each at a higher revision than the one before
 

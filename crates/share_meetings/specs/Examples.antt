@@ -11,7 +11,7 @@ use Rattle.mirror_core.specs.Mirrored.{Mirrored}
 use Rattle.mirror_client.specs.Points.{nothing_read, place}
 use Rattle.mirror_client.specs.Runs.{Followed}
 use Rattle.share_history.specs.Whole.{IsWhole}
-use Rattle.served_mirrors.specs.Links.{AnsweredAll, ServedLink}
+use Rattle.share_meetings.specs.Links.{AnsweredAll, ServedLink}
 
 -- A mirror of all items at revision 0, without rows.
 abbrev pub new_mirror : Option Query → Meta → Mirrored

@@ -16,7 +16,7 @@ use Rattle.share_server.specs.Served.{answered_on, at_point}
 use Rattle.mirror_client.specs.Laws.{AreAnswers, NeverFall, last_point}
 use Rattle.followed_shares.specs.Served.{Rise}
 use Rattle.share_history.specs.Whole.{IsWhole}
-use Rattle.served_mirrors.specs.Mirrors.{AreListed, IsListed}
+use Rattle.share_meetings.specs.Mirrors.{AreListed, IsListed}
 use Rattle.share_history.proofs.WholeFacts.{point_whole}
 
 -- ---- histories that begin others

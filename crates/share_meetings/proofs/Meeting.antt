@@ -24,12 +24,12 @@ use Rattle.mirror_client.proofs.FilterFacts.{caught_up, followers_hold_the_filte
 use Rattle.followed_shares.specs.Served.{Rise}
 use Rattle.share_history.specs.Whole.{IsWhole}
 use Rattle.followed_shares.proofs.FilterShown.{owed_split}
-use Rattle.served_mirrors.specs.Laws.{WalkersHoldTheShare}
-use Rattle.served_mirrors.specs.Links.{ServedLink}
-use Rattle.served_mirrors.specs.Mirrors.{AreBehindLogin, BeganWell, CanBeAsked, HoldsLast, HoldsTheShare}
-use Rattle.served_mirrors.proofs.Points.{IsPrefix, listed_still, prefix_both, prefix_taken, rise_falls, rise_short}
-use Rattle.served_mirrors.proofs.Sends.{Left, link_sends}
-use Rattle.served_mirrors.proofs.Standing.{Stands, walk}
+use Rattle.share_meetings.specs.MirrorLaws.{WalkersHoldTheShare}
+use Rattle.share_meetings.specs.Links.{ServedLink}
+use Rattle.share_meetings.specs.Mirrors.{AreBehindLogin, BeganWell, CanBeAsked, HoldsLast, HoldsTheShare}
+use Rattle.share_meetings.proofs.Prefixes.{IsPrefix, listed_still, prefix_both, prefix_taken, rise_falls, rise_short}
+use Rattle.share_meetings.proofs.Sends.{Left, link_sends}
+use Rattle.share_meetings.proofs.Standing.{Stands, walk}
 
 -- ---- bytes that are known
 

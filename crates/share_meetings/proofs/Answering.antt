@@ -24,10 +24,10 @@ use Rattle.share_server.specs.Served.{AreServed, IsGivenUp, IsReplied, IsServed,
 use Rattle.followed_shares.specs.Served.{Serves, due_status}
 use Rattle.share_history.specs.Whole.{IsWhole}
 use Rattle.followed_shares.proofs.Successes.{Begins, answer_is}
-use Rattle.served_mirrors.specs.Links.{IsReport}
-use Rattle.served_mirrors.proofs.Granted.{Goes, goes_so}
-use Rattle.served_mirrors.proofs.Points.{IsPrefix, answered_between, got_behind, prefix_both, prefix_taken, prefix_whole}
-use Rattle.served_mirrors.proofs.Sends.{AreAmong, IsComplete, IsGranted, Left}
+use Rattle.share_meetings.specs.Links.{IsReport}
+use Rattle.share_meetings.proofs.Granted.{Goes, goes_so}
+use Rattle.share_meetings.proofs.Prefixes.{IsPrefix, answered_between, got_behind, prefix_both, prefix_taken, prefix_whole}
+use Rattle.share_meetings.proofs.Sends.{AreAmong, IsComplete, IsGranted, Left}
 
 -- a request of a connection that stays open
 abbrev pub open_ask : Role → Want → Ask

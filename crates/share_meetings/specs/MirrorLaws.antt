@@ -20,9 +20,9 @@ use Rattle.share_server.specs.Links.{LinkEnded}
 use Rattle.share_server.specs.Passes.{Pass}
 use Rattle.share_workers.specs.Works.{Works}
 use Rattle.share_history.specs.Whole.{IsWhole}
-use Rattle.served_mirrors.specs.Examples.{IsServedOnce, new_mirror}
-use Rattle.served_mirrors.specs.Links.{AnsweredAll, AreServedLinks, ServedLink}
-use Rattle.served_mirrors.specs.Mirrors.{BeganWell, CanBeAsked, HoldsTheShare}
+use Rattle.share_meetings.specs.Examples.{IsServedOnce, new_mirror}
+use Rattle.share_meetings.specs.Links.{AnsweredAll, AreServedLinks, ServedLink}
+use Rattle.share_meetings.specs.Mirrors.{BeganWell, CanBeAsked, HoldsTheShare}
 
 -- A mirror in any stage, which may have written a part of its next request, holds what the share had at the last listing
 -- that it applied. It may have held what the share had before. The connection may have broken with bytes under way: the

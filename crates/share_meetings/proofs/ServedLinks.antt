@@ -11,8 +11,8 @@ use Rattle.share_server.specs.Ends.{EndsAtEnd, EndsInside}
 use Rattle.share_server.specs.Passes.{Rises}
 use Rattle.share_server.specs.Serving.{limit_of}
 use Rattle.share_workers.specs.Works.{LinksAt}
-use Rattle.served_mirrors.specs.Laws.{EndedLinksAreServed, WorkersLinksAreServed}
-use Rattle.served_mirrors.specs.Links.{AreServedLinks}
+use Rattle.share_meetings.specs.MirrorLaws.{EndedLinksAreServed, WorkersLinksAreServed}
+use Rattle.share_meetings.specs.Links.{AreServedLinks}
 
 -- lengths that increase from one also do from a lower one
 rises_from : (low least high : ℕ) (served : List Served) → least ≤ low → Rises low served high → Rises least served high

@@ -1,5 +1,0 @@
-use Rattle.served_mirrors.proofs.ServedLinks.{workers_links_are_served}
-use Rattle.served_mirrors.proofs.laws.workers_links_are_served.Goals as goal
-
-pub returns : goal.returns
-returns c = workers_links_are_served

@@ -1,4 +1,0 @@
-pub mod Links
-pub mod Mirrors
-pub mod Examples
-pub mod Laws
