@@ -18,7 +18,7 @@ use Rattle.http_client.specs.Requests.{IsHost}
 use Rattle.mirror_client.specs.Exchanges.{requests}
 use Rattle.mirror_client.specs.Laws.{AreAnswers}
 use Rattle.mirror_client.specs.Stages.{listings_in}
-use Rattle.followed_shares.specs.Served.{Rise}
+use Rattle.share_meetings.specs.ServedRuns.{Rise}
 use Rattle.relayed_rows.specs.Libraries.{IsLibrary}
 use Rattle.relayed_rows.specs.Relays.{relay_of, steps_between}
 use Rattle.relay_share.specs.Rounds.{followed}

@@ -6,7 +6,7 @@ use Rattle.item_model.specs.declared.changes.Entry.{Entry}
 use Rattle.share_history.specs.Histories.{all_edits, batches, edits}
 use Rattle.share_history.specs.Rows.{library}
 use Rattle.share_history.proofs.EditFacts.{all_edits-append, batches-append}
-use Rattle.followed_shares.specs.Served.{Rise, first_of}
+use Rattle.share_meetings.specs.ServedRuns.{Rise, first_of}
 use Rattle.share_meetings.proofs.Prefixes.{IsPrefix, prefix_both, prefix_self}
 use Rattle.relayed_rows.specs.Libraries.{IsLibrary, Library}
 use Rattle.relayed_rows.specs.Relays.{steps_between}

@@ -13,7 +13,7 @@ use Rattle.share_history.specs.Numbers.{first_revision}
 use Rattle.share_history.specs.Rows.{is_selected, library}
 use Rattle.share_history.proofs.EditFacts.{batches-append, batches-at_revision}
 use Rattle.share_history.proofs.RowFacts.{rows_selected}
-use Rattle.followed_shares.specs.Served.{Rise}
+use Rattle.share_meetings.specs.ServedRuns.{Rise}
 use Rattle.relayed_rows.specs.Libraries.{Library}
 use Rattle.share_meetings.proofs.Prefixes.{IsPrefix, prefix_revision}
 use Rattle.share_meetings.specs.Shown.{AreRising}

@@ -4,7 +4,7 @@ use Rattle.std.specs.List.{AllByRecursion}
 use Rattle.item_model.specs.declared.changes.Entry.{Entry}
 use Rattle.share_history.specs.Histories.{all_edits, batches}
 use Rattle.share_history.specs.Rows.{library}
-use Rattle.followed_shares.specs.Served.{Rise}
+use Rattle.share_meetings.specs.ServedRuns.{Rise}
 use Rattle.relayed_rows.specs.Libraries.{IsLibrary, Library}
 use Rattle.relayed_rows.specs.Relays.{steps_between}
 

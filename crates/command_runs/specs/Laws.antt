@@ -1,9 +1,13 @@
 -- What two runs of the program that met on a connection have to do with each other. The premises are what is told: the
--- runs, and the bytes of the connection.
+-- runs, and the bytes of the connection. Then when a run that reaches a share succeeds.
 use Rattle.std.specs.Prelude.{◌≡◌, List, false, Some}
 use Rattle.item_model.specs.declared.changes.Entry.{Entry}
+use Rattle.share_replies.specs.Settings.{Settings}
 use Rattle.command_core.specs.Seen.{Told}
 use Rattle.edit_meetings.specs.Kept.{Acknowledges, IsAllOrNothing, TellsOf}
+use Rattle.link_commands.specs.Decided.{IsOrMemory}
+use Rattle.link_commands.specs.Promises.{IsFaultless}
+use Rattle.share_meetings.specs.CommandLaws.{ServesMirror, ServesPush}
 use Rattle.share_meetings.specs.Meetings.{Meets}
 use Rattle.share_meetings.specs.Shown.{ShowsAsked}
 use Rattle.daapshare_words.specs.declared.command.Command.TheVariants.{Net}
@@ -52,3 +56,16 @@ RunsTellOfEdits =
     → IsRun (Some (Net (Serve w))) told served → served.history ≡ Some history → IsRun (Some (Net (Edit v))) seen edited
     → (meets : Meets told.before.around.net told.after.around.net served.links seen.before.around.net seen.after.around.net)
     → TellsOf v.stop meets.served.report history seen edited.status × IsAllOrNothing v.stop meets.served.report history seen
+
+-- If the bytes of its connection are a share's responses to what the arguments name, for all rounds, then a run of
+-- `follow` succeeds, unless an error outside was counted or an allocation failed.
+abbrev pub RunsOfFollowGoOn : Type 0
+RunsOfFollowGoOn =
+    (v : FollowWords) (told : Told) (outcome : Outcome) (s : Settings) (h : List Entry)
+    → IsRun (Some (Net (Follow v))) told outcome → ServesMirror s h v.rounds v.query v.meta (target_of v.list) told → IsFaultless told → IsOrMemory 0 outcome.status
+
+-- So does a run of `edit`, if these bytes are one success of a share and its input is within its limit.
+abbrev pub RunsOfEditGoOn : Type 0
+RunsOfEditGoOn =
+    (v : EditWords) (told : Told) (outcome : Outcome) (s : Settings) (h : List Entry)
+    → IsRun (Some (Net (Edit v))) told outcome → ServesPush s h v.stop told → IsFaultless told → IsOrMemory 0 outcome.status

@@ -3,12 +3,12 @@
 
 ghost use Rattle.chain_meetings.specs.Restarts.{RestartsGoOn, RestartsKeepMirrors, RestartsKeepRevisions};
 ghost use Rattle.mirror_core.specs.Laws.{MirrorsFollowAnswers, FullBodiesSuffice};
-ghost use Rattle.relay_command.specs.Laws.{RunsSucceed};
 ghost use Rattle.serve_command.specs.Laws.{RunsAreDecided, SuccessLeavesTheFile};
+ghost use Rattle.share_meetings.specs.RelayLaws.{RunsSucceed};
 ghost use Rattle.edit_meetings.specs.EditMeetings.{KeptEditsStay};
 ghost use Rattle.command_runs.specs.Chains.{RunsShowInOrder, RunsShowTheFirst};
 ghost use Rattle.command_runs.specs.Files.{RunsGoOn, RunsKeepTheFile};
-ghost use Rattle.command_runs.specs.Laws.{RunsKeepEdits, RunsShowTheRelay, RunsShowTheShare, RunsTellOfEdits};
+ghost use Rattle.command_runs.specs.Laws.{RunsKeepEdits, RunsOfEditGoOn, RunsOfFollowGoOn, RunsShowTheRelay, RunsShowTheShare, RunsTellOfEdits};
 
 use mirror_core::laws;
 
@@ -104,12 +104,24 @@ pub fn runs_of_serve_are_decided()
     serve_command::laws::runs_are_decided();
 }
 
+/// If a share responds to each request of a run of `follow`, for all its rounds, and nothing outside fails, then the run
+/// ends with 0, except for out of memory.
+pub fn runs_of_follow_go_on()
+    ensures { RunsOfFollowGoOn }
+{}
+
+/// If a share responds to a run of `edit` with a success, and nothing outside fails, then the run ends with 0, except for
+/// out of memory.
+pub fn runs_of_edit_go_on()
+    ensures { RunsOfEditGoOn }
+{}
+
 /// If a share grants each request of a relay, and nothing outside fails, then a run of `relay` ends with 0, except for out
 /// of memory, for a worker at its limit and for a library that the relay's share has no capacity for.
 pub fn runs_of_relay_succeed()
     ensures { RunsSucceed }
 {
-    relay_command::laws::runs_succeed();
+    share_meetings::laws::runs_succeed();
 }
 
 /// After status 0 of `serve` with a file, the file has the batches of the history, and no error of files was counted.

@@ -35,9 +35,10 @@ use Rattle.share_server.specs.declared.report.Served.{Served}
 use Rattle.share_server.specs.Served.{answered_on, at_point}
 use Rattle.mirror_client.specs.Tellings.{IsTag, TellsNumber, number_told}
 use Rattle.mirror_client.proofs.TellingFacts.{tags_once}
-use Rattle.followed_shares.proofs.FilterShown.{few, revision_tag}
-use Rattle.followed_shares.proofs.HeadsRead.{tag_read}
-use Rattle.followed_shares.proofs.Successes.{answer_is, good_status, success_bytes, success_is}
+use Rattle.share_meetings.proofs.FilterShown.{few, revision_tag}
+use Rattle.share_meetings.proofs.HeadsRead.{tag_read}
+use Rattle.link_commands.proofs.FirstReply.{answer_is}
+use Rattle.share_meetings.proofs.Successes.{good_status, success_bytes, success_is}
 use Rattle.share_meetings.proofs.Granted.{Goes, goes_so}
 use Rattle.share_meetings.proofs.Sends.{IsGranted}
 use Rattle.edit_meetings.specs.EditMeetings.{KeptEditsStay}

@@ -12,7 +12,7 @@ use Rattle.share_server.specs.declared.report.LinkReport.{LinkReport}
 use Rattle.command_core.specs.Seen.{NetSeen}
 use Rattle.mirror_client.specs.declared.pushing.Pushed.{Pushed}
 use Rattle.mirror_client.specs.Pushes.{push_text}
-use Rattle.followed_shares.proofs.FilterShown.{owed_split}
+use Rattle.link_commands.proofs.FirstReply.{owed_split}
 use Rattle.share_meetings.proofs.Answering.{ReadsAs}
 use Rattle.link_commands.specs.EditShare.{HasPushed}
 use Rattle.link_commands.specs.Linked.{HasLinked, LinkSeen, start_of}

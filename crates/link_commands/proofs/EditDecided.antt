@@ -17,9 +17,7 @@ use Rattle.mirror_client.specs.Exchanges.{Exchanged}
 use Rattle.mirror_client.specs.Points.{Point}
 use Rattle.mirror_client.specs.Pushes.{IsPushed, UnexpectedEdit, UnexpectedPush, push_text}
 use Rattle.mirror_client.specs.Stopping.{CountsFault}
-use Rattle.followed_shares.proofs.Completes.{IsOutside, stops_outside}
-use Rattle.followed_shares.proofs.FilterShown.{owed_split}
-use Rattle.followed_shares.proofs.Successes.{answer_is}
+use Rattle.link_commands.proofs.FirstReply.{IsOutside, answer_is, owed_split, stops_outside}
 use Rattle.link_commands.specs.declared.edit.EditFault.{EditFault}
 use Rattle.link_commands.specs.declared.edit.EditFault.TheVariants.{TooLong, Unreached, Refused, Link}
 use Rattle.link_commands.specs.Decided.{BeginsDue, DecidesEdit, IsDueAnswer, IsOrMemory, IsSendable}
@@ -27,7 +25,7 @@ use Rattle.link_commands.specs.EditShare.{HasBody, IsEditDone, IsTooLong, StopsE
 use Rattle.link_commands.specs.Linked.{HasLinked, LinkSeen, start_of}
 use Rattle.link_commands.specs.Links.{link_status}
 use Rattle.link_commands.specs.Meanings.{LinkEnds}
-use Rattle.link_commands.specs.Served.{IsFaultless}
+use Rattle.link_commands.specs.Promises.{IsFaultless}
 use Rattle.link_commands.proofs.LinkedFacts.{behind_rose, left_is, link_rose, owed_is}
 
 -- ---- what is sent

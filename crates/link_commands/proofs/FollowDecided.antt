@@ -1,5 +1,5 @@
 -- What decides the status of a run of `follow`.
-use Rattle.std.proofs.Common.{◌≡◌, ℕ, List, Option, Some, None, sym, ◌∙◌, subst, inl, inr}
+use Rattle.std.proofs.Common.{◌≡◌, ◌≢◌, ◌⊎◌, ℕ, List, Option, Some, None, sym, ◌∙◌, subst, inl, inr}
 use Rattle.outside_net.specs.Counts.{Rose}
 use Rattle.item_model.specs.declared.request.Target.{Target}
 use Rattle.command_core.specs.declared.fault.Fault.{Fault}
@@ -8,19 +8,22 @@ use Rattle.command_core.specs.Endings.{Done, OutputCut, Refused as refused_endin
 use Rattle.command_core.specs.Faults.{fault_line, fault_status}
 use Rattle.command_core.specs.Seen.{Told}
 use Rattle.mirror_core.specs.Mirrored.{Mirrored}
+use Rattle.mirror_client.specs.declared.refusal.FollowError.{FollowError}
+use Rattle.mirror_client.specs.declared.refusal.FollowError.TheVariants.{LinkFault, Memory}
 use Rattle.mirror_client.specs.Exchanges.{messages}
-use Rattle.followed_shares.proofs.FilterShown.{owed_split}
+use Rattle.mirror_client.specs.Stopping.{CountsFault}
+use Rattle.link_commands.proofs.FirstReply.{owed_split}
 use Rattle.link_commands.specs.declared.follow.FollowFault.{FollowFault}
 use Rattle.link_commands.specs.declared.follow.FollowFault.TheVariants.{Query, Meta, Unreached, Link}
 use Rattle.link_commands.specs.Decided.{BeginsRun, DecidesFollow, HasNoRun, HasRun, IsOrMemory, IsTextRefused}
-use Rattle.link_commands.specs.FollowShare.{IsFollowDone, StopsFollowBy, follow_line, follow_meaning, follow_status}
+use Rattle.link_commands.specs.FollowShare.{IsFollowDone, StopsFollowBy, StopsFollowing, follow_line, follow_meaning, follow_status}
 use Rattle.link_commands.specs.Linked.{start_of}
 use Rattle.link_commands.specs.Looks.{AsksMirror}
 use Rattle.link_commands.specs.Meanings.{LinkEnds}
-use Rattle.link_commands.specs.Served.{IsFaultless}
+use Rattle.link_commands.specs.Promises.{IsFaultless}
 use Rattle.link_commands.proofs.EditDecided.{link_unexpected}
-use Rattle.link_commands.proofs.FollowPromised.{link_goes_on, one_mirror, read_or_refused}
-use Rattle.link_commands.proofs.LinkedFacts.{behind_rose, left_is, owed_is}
+use Rattle.link_commands.proofs.OneMirror.{one_mirror, read_or_refused}
+use Rattle.link_commands.proofs.LinkedFacts.{behind_rose, left_is, link_rose, owed_is}
 use Rattle.link_commands.proofs.RunOnce.{whole_run_goes_on}
 
 -- ---- the texts
@@ -47,6 +50,14 @@ follow_refused host rounds query meta target told status (refused_ending front f
 follow_refused host rounds query meta target told status (LineCut front fault, e, (stops, w)) whole refused = absurd (whole (behind_rose told.output_before told.output_after front (fault_line follow_line fault) w))
 
 -- ---- the bytes of the connection
+
+-- an error of the connection that ends a run was counted on the network
+pub link_goes_on : (host : List ℕ) (rounds : ℕ) (query meta : Option (List ℕ)) (target : Target) (told : Told) (e : FollowError) (front : List ℕ) → e ≢ Memory
+    → (x : StopsFollowing host rounds query meta target told.before told.after e front) → IsFaultless told → (e ≡ LinkFault) ⊎ (e ≡ Memory) → ⊥
+link_goes_on host rounds query meta target told e front other x faultless (inl fault) =
+    faultless.net (link_rose host told.before.around.net told.after.around.net x.link x.for.linked
+    (subst (λ (f : FollowError). CountsFault 0 x.link.faults f) fault x.stops.count))
+link_goes_on host rounds query meta target told e front other x faultless (inr memory) = other memory
 
 done_run : (host : List ℕ) (rounds : ℕ) (query meta : Option (List ℕ)) (target : Target) (told : Told) (output bytes : List ℕ)
     (done : IsFollowDone host rounds query meta target told.before told.after output) → told.before.around.net.next_input ≡ Some bytes → BeginsRun host done.m rounds bytes

@@ -29,7 +29,6 @@ use Rattle.link_commands.specs.Rounds.{EndsRounds}
 use Rattle.link_commands.proofs.EndedFacts.{Promised, by_cut, by_fault, by_idle, by_memory, by_output, untouched}
 use Rattle.command_core.proofs.Appending.{none_written}
 use Rattle.link_commands.proofs.FollowDecided.{follow_decided, follow_refused}
-use Rattle.link_commands.proofs.FollowPromised.{follow_goes_on}
 use Rattle.link_commands.proofs.LinkedFacts.{link_rose}
 use Rattle.link_commands.proofs.PushFacts.{link_fails, link_is}
 
@@ -107,7 +106,6 @@ keeps_net host rounds query meta target told status (LineCut front fault, s, (st
 pub follow_promised : (host : List ℕ) (rounds : ℕ) (query meta : Option (List ℕ)) (target : Target) → Promised (follow_meaning host rounds query meta target)
 follow_promised host rounds query meta target told status ends = record {
   net = keeps_net host rounds query meta target told status ends;
-  goes_on = follow_goes_on host rounds query meta target told status ends;
   refused = follow_refused host rounds query meta target told status ends;
   decided = follow_decided host rounds query meta target told status ends;
 }

@@ -1,10 +1,10 @@
 pub mod LinkedFacts
 pub mod EndedFacts
-pub mod FollowPromised
+pub mod FirstReply
+pub mod OneMirror
 pub mod RunOnce
 pub mod FollowDecided
 pub mod EditDecided
-pub mod EditPromised
 pub mod PushFacts
 pub mod RowFacts
 pub mod RoundFacts

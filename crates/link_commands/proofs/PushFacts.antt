@@ -27,7 +27,6 @@ use Rattle.link_commands.specs.Links.{link_status}
 use Rattle.link_commands.specs.Meanings.{IsLinkAnswered, KeepsNet, LinkEnds}
 use Rattle.link_commands.proofs.EndedFacts.{Promised, by_fault, by_idle, untouched}
 use Rattle.link_commands.proofs.EditDecided.{edit_decided}
-use Rattle.link_commands.proofs.EditPromised.{edit_goes_on}
 use Rattle.link_commands.proofs.LinkedFacts.{link_rose, written_part, written_whole}
 
 -- ---- statuses
@@ -108,7 +107,7 @@ keeps_net host stop told status (LineCut front fault, s, (stops, w)) = record {
 -- what is promised of every run
 pub edit_promised : (host : List ℕ) (stop : Bool) → Promised (edit_meaning host stop)
 edit_promised host stop told status ends =
-    record { net = keeps_net host stop told status ends; goes_on = edit_goes_on host stop told status ends; decided = edit_decided host stop told status ends }
+    record { net = keeps_net host stop told status ends; decided = edit_decided host stop told status ends }
 
 -- ---- out of memory in place of another error
 

@@ -23,9 +23,7 @@ use Rattle.mirror_client.specs.Steps.{IsRefusedBy, Known, TellsListing, TellsTab
 use Rattle.mirror_client.specs.Stopping.{Stops}
 use Rattle.mirror_client.specs.Tellings.{TellsNumber, UnexpectedNumber, number_told}
 use Rattle.mirror_client.proofs.TellingFacts.{tags_once}
-use Rattle.followed_shares.proofs.Completes.{IsOutside, stops_outside}
-use Rattle.followed_shares.proofs.FilterShown.{left_owed, owed_split, split_on}
-use Rattle.followed_shares.proofs.Successes.{Begins, answer_is}
+use Rattle.link_commands.proofs.FirstReply.{Begins, IsOutside, answer_is, left_owed, owed_split, split_on, stops_outside}
 use Rattle.link_commands.specs.Decided.{BeginsRun}
 
 -- ---- a reply has one content

@@ -22,7 +22,7 @@ use Rattle.link_commands.specs.declared.edit.EditFault.TheVariants.{TooLong, Unr
 use Rattle.link_commands.specs.Linked.{HasLinked, IsUnreached, IsUntouched, LinkSeen, start_of}
 use Rattle.link_commands.specs.Links.{link_line, link_status}
 use Rattle.link_commands.specs.Meanings.{LinkMeaning}
-use Rattle.link_commands.specs.Served.{EditPromises}
+use Rattle.link_commands.specs.Promises.{EditPromises}
 
 -- the text of a share's refusal is shown up to this length
 abbrev pub text_limit : ℕ

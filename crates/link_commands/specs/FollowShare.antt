@@ -25,7 +25,7 @@ use Rattle.link_commands.specs.Links.{link_line, link_status}
 use Rattle.link_commands.specs.Looks.{AsksMirror, AsksQuery, HasRefusal, meta_asked}
 use Rattle.link_commands.specs.Meanings.{LinkMeaning}
 use Rattle.link_commands.specs.RoundLines.{round_lines, shown_rows}
-use Rattle.link_commands.specs.Served.{FollowPromises}
+use Rattle.link_commands.specs.Promises.{FollowPromises}
 
 -- the lines of the rounds that made these listings
 abbrev pub lines_of : Mirrored → List Listing → List ℕ

@@ -5,7 +5,7 @@ pub mod Looks
 pub mod LookFaults
 pub mod Decided
 pub mod RoundLines
-pub mod Served
+pub mod Promises
 pub mod EditShare
 pub mod FollowShare
 pub mod Rounds

@@ -5,5 +5,4 @@ pub mod Staff
 pub mod Success
 pub mod Shown
 pub mod Unstopped
-pub mod ServedRelays
 pub mod Succeeding

@@ -1,31 +1,16 @@
--- What follows for a run of `relay`: what its players can see, and when it succeeds.
-use Rattle.std.specs.Prelude.{◌≡◌, ◌≢◌, ◌⊎◌, ⊤, ℕ, List, [], ◌∷◌, ◌++◌, length, map, true, Option, Some, None}
-use Rattle.outside_net.specs.Counts.{Rose}
+-- What follows for a run of `relay`: what its players can see, and how it ends.
+use Rattle.std.specs.Prelude.{◌≡◌, ◌≢◌, ℕ, List, [], ◌∷◌, ◌++◌}
 use Rattle.item_model.specs.declared.changes.Entry.{Entry}
-use Rattle.item_model.specs.declared.request.Meta.TheVariants.{All}
-use Rattle.item_model.specs.declared.request.Target.TheVariants.{Items}
-use Rattle.mirror_client.specs.declared.refusal.FollowError.TheVariants.{LinkFault}
-use Rattle.mirror_client.specs.Points.{Point}
 use Rattle.mirror_client.specs.Stages.{listings_in}
 use Rattle.share_history.specs.Histories.{all_edits, batches}
 use Rattle.share_history.specs.Rows.{library}
-use Rattle.share_history.specs.Whole.{IsWhole}
-use Rattle.share_replies.specs.Settings.{Settings}
-use Rattle.share_server.specs.Passes.{Pass}
-use Rattle.share_workers.specs.declared.worker.WorkerEnd.TheVariants.{Spent}
-use Rattle.followed_shares.specs.Served.{ServesRun}
 use Rattle.command_core.specs.Seen.{NetSeen, OutputSeen}
 use Rattle.link_commands.specs.Linked.{start_of}
 use Rattle.share_crew.specs.declared.outcome.Outcome.{Outcome}
-use Rattle.share_crew.specs.Verdicts.{has_end}
 use Rattle.relayed_rows.specs.Relays.{StandsAt, relay_of, steps_between}
-use Rattle.relay_share.specs.Ends.{HasRelayed}
 use Rattle.relay_share.specs.Laws.{LeavesSteps}
-use Rattle.relay_share.specs.declared.report.RelayEnd.{RelayEnd}
-use Rattle.relay_share.specs.declared.report.RelayEnd.TheVariants.{Done, Row, Full, Stopped, Peer, Memory}
-use Rattle.relay_share.specs.declared.report.RelayReport.{RelayReport}
-use Rattle.relay_command.specs.Lines.{relaying_line}
-use Rattle.relay_command.specs.Runs.{HasServed, RelayEnds}
+use Rattle.relay_share.specs.declared.report.RelayEnd.TheVariants.{Done, Stopped}
+use Rattle.relay_command.specs.Runs.{HasServed}
 use Rattle.relay_command.specs.declared.terms.Relaying.{Relaying}
 
 -- The batches that a run leaves are the steps between the libraries that the relay read on its connection, from the
@@ -37,30 +22,6 @@ RunsShowWhatTheyRead =
     → (x : LeavesSteps relaying.upstream relaying.rounds (start_of r.relay.link) r.relay.link.taken r.relay.pass) × (batches r.history ≡ steps_between [] (relay_of (listings_in x.stage)))
     × ((first middle rest : List Entry) → r.history ≡ first ++ (middle ++ rest)
     → (s : StandsAt ([] ∷ relay_of (listings_in x.stage)) first) × StandsAt (library (all_edits first) ∷ s.ahead) (first ++ middle))
-
--- ---- what a share sends
-
--- The bytes are all responses of a share to a client that follows its items, with all their properties, for exactly this number of rounds. The
--- share answered at lengths of one history that never decrease
-pub record ServesRelay (s : Settings) (h : List Entry) (rounds : ℕ) (bytes : List ℕ) : Type 0 where
-  pub whole : IsWhole h
-  pub run : ServesRun s Items None All h bytes
-  pub rounds_are : length (run.first ∷ run.others) ≡ rounds
-
--- how a relay may end whose connection has such bytes
-abbrev pub MayEnd : RelayEnd → Type 0
-MayEnd Done = ⊤
-MayEnd (Row index) = ⊥
-MayEnd Full = ⊤
-MayEnd Stopped = ⊤
-MayEnd (Peer error) = error ≡ LinkFault
-MayEnd Memory = ⊤
-
--- No response of a share ends a relay early: each row is read, and each response is the expected one
-abbrev pub ServedRelaysGoOn : Type 0
-ServedRelaysGoOn =
-    (host : List ℕ) (rounds : ℕ) (p : Point) (taken : Option (List ℕ)) (k k' : Pass) (report : RelayReport) (s : Settings) (h : List Entry) (bytes : List ℕ)
-    → HasRelayed host rounds p taken k k' report → p.owed ≡ Some bytes → ServesRelay s h rounds bytes → MayEnd report.end
 
 -- ---- how runs end
 
@@ -75,26 +36,3 @@ abbrev pub SuccessesMakeAllRounds : Type 0
 SuccessesMakeAllRounds =
     (relaying : Relaying) (front : List ℕ) (net net' : NetSeen) (output output' : OutputSeen) (left : Outcome) → (r : HasServed relaying front net net' output output' left)
     → left.status ≡ 0 → r.relay.report.end ≡ Done
-
--- the relay's share had no capacity for a listing, or a worker served as much as it may
-abbrev pub MeetsLimit : {relaying : Relaying} {front : List ℕ} {net net' : NetSeen} {output output' : OutputSeen} {left : Outcome}
-    → HasServed relaying front net net' output output' left → Type 0
-MeetsLimit r = (r.relay.report.end ≡ Full) ⊎ (has_end Spent (map (λ stint. stint.end) r.crew) ≡ true)
-
--- If the relay's connection has such bytes, and neither error counter increased, then the run succeeds, unless an allocation failed or a
--- limit was met
-abbrev pub ServedRunsSucceed : Type 0
-ServedRunsSucceed =
-    (relaying : Relaying) (front : List ℕ) (net net' : NetSeen) (output output' : OutputSeen) (left : Outcome) (s : Settings) (h : List Entry) (bytes : List ℕ)
-    → (r : HasServed relaying front net net' output output' left) → r.relay.link.left ≡ Some bytes → ServesRelay s h relaying.rounds bytes
-    → ¬ (Rose net.faults net'.faults) → ¬ (Rose output.faults output'.faults)
-    → (left.status ≡ 0) ⊎ ((left.status ≡ 9) ⊎ ((left.status ≡ 8) × MeetsLimit r))
-
--- so does each run of `relay`, if the connection that the network makes next has such bytes
-abbrev pub RunsSucceed : Type 0
-RunsSucceed =
-    (relaying : Relaying) (net net' : NetSeen) (output output' : OutputSeen) (left : Outcome) (s : Settings) (h : List Entry) (bytes : List ℕ)
-    → RelayEnds relaying net net' output output' left → net.next_input ≡ Some bytes → ServesRelay s h relaying.rounds bytes
-    → ¬ (Rose net.faults net'.faults) → ¬ (Rose output.faults output'.faults)
-    → (left.status ≡ 0)
-    ⊎ ((left.status ≡ 9) ⊎ ((left.status ≡ 8) × ((r : HasServed relaying (relaying_line relaying.name) net net' output output' left) × MeetsLimit r)))

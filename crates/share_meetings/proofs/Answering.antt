@@ -21,9 +21,9 @@ use Rattle.share_server.specs.declared.report.Served.{Served}
 use Rattle.share_server.specs.Passes.{Rises}
 use Rattle.share_server.specs.Replies.{answer_bytes, due, replies_from}
 use Rattle.share_server.specs.Served.{AreServed, IsGivenUp, IsReplied, IsServed, answered_on, at_point}
-use Rattle.followed_shares.specs.Served.{Serves, due_status}
+use Rattle.share_meetings.specs.ServedRuns.{Serves, due_status}
 use Rattle.share_history.specs.Whole.{IsWhole}
-use Rattle.followed_shares.proofs.Successes.{Begins, answer_is}
+use Rattle.link_commands.proofs.FirstReply.{Begins, answer_is}
 use Rattle.share_meetings.specs.Links.{IsReport}
 use Rattle.share_meetings.proofs.Granted.{Goes, goes_so}
 use Rattle.share_meetings.proofs.Prefixes.{IsPrefix, answered_between, got_behind, prefix_both, prefix_taken, prefix_whole}

@@ -29,9 +29,9 @@ use Rattle.mirror_core.specs.Mirrored.{Mirrored}
 use Rattle.mirror_client.specs.Tellings.{IsTag, TellsNumber, number_told}
 use Rattle.mirror_client.proofs.TellingFacts.{tags_once}
 use Rattle.share_history.specs.Whole.{IsWhole}
-use Rattle.followed_shares.proofs.BodiesRead.{listing_body_read}
-use Rattle.followed_shares.proofs.FilterShown.{few, login_tag, revision_tag, table_tag}
-use Rattle.followed_shares.proofs.Successes.{empty_served, tag_served}
+use Rattle.share_meetings.proofs.BodiesRead.{listing_body_read}
+use Rattle.share_meetings.proofs.FilterShown.{few, login_tag, revision_tag, table_tag}
+use Rattle.share_meetings.proofs.Successes.{empty_served, tag_served}
 use Rattle.share_meetings.specs.Mirrors.{CanBeAsked}
 use Rattle.share_meetings.proofs.Answering.{ReadsBack, Says, open_ask}
 

@@ -36,9 +36,9 @@ use Rattle.mirror_client.specs.Runs.{Followed}
 use Rattle.mirror_client.specs.Stages.{Asking, Begun, Closed, Holding, Learned, Path}
 use Rattle.mirror_client.specs.Steps.{Known, TellsListing, all_applied, with_listings}
 use Rattle.share_history.specs.Whole.{IsWhole}
-use Rattle.followed_shares.proofs.BodiesRead.{listing_body_read}
-use Rattle.followed_shares.proofs.FilterShown.{few, login_tag, standard_back, table_tag}
-use Rattle.followed_shares.proofs.HeadsRead.{empty_read, tag_read}
+use Rattle.share_meetings.proofs.BodiesRead.{listing_body_read}
+use Rattle.share_meetings.proofs.FilterShown.{few, login_tag, standard_back, table_tag}
+use Rattle.share_meetings.proofs.HeadsRead.{empty_read, tag_read}
 use Rattle.share_meetings.specs.Examples.{new_mirror}
 use Rattle.share_meetings.specs.Links.{AnsweredAll, ServedLink}
 use Rattle.share_meetings.specs.MirrorLaws.{MirrorsAreServed}

@@ -14,7 +14,7 @@ use Rattle.mirror_core.specs.Mirrored.{Mirrored}
 use Rattle.mirror_client.specs.Laws.{AreAnswers, last_point}
 use Rattle.mirror_client.specs.Steps.{with_listings}
 use Rattle.share_replies.specs.Settings.{Settings}
-use Rattle.followed_shares.specs.Served.{Rise}
+use Rattle.share_meetings.specs.ServedRuns.{Rise}
 use Rattle.share_meetings.specs.Mirrors.{AreListed, HeldBefore, HoldsLast, HoldsTheShare, IsListed}
 use Rattle.share_meetings.proofs.Prefixes.{last_begins}
 use Rattle.share_crew.specs.Stints.{IsPart, Stint}

@@ -1,3 +1,14 @@
+pub mod HeadsRead
+pub mod WholeFacts
+pub mod BodiesRead
+pub mod Successes
+pub mod FilterShown
+pub mod EditReplies
+pub mod Completes
+pub mod FollowGoesOn
+pub mod EditGoesOn
+pub mod ServedRelays
+pub mod RelaysSucceed
 pub mod Prefixes
 pub mod Sends
 pub mod Granted

@@ -12,7 +12,7 @@ use Rattle.mirror_client.specs.Laws.{AreAnswers, last_point}
 use Rattle.mirror_client.specs.Steps.{all_applied, applied_by}
 use Rattle.mirror_client.proofs.FilterFacts.{caught_up, followers_hold_the_filter}
 use Rattle.link_commands.specs.RoundLines.{round_line, round_lines, shown_rows}
-use Rattle.followed_shares.specs.Served.{Rise}
+use Rattle.share_meetings.specs.ServedRuns.{Rise}
 use Rattle.share_meetings.proofs.Prefixes.{IsPrefix}
 use Rattle.share_meetings.specs.Texts.{last_of, line_at, lines_at, rows_text, told_of}
 use Rattle.share_meetings.proofs.Points.{first_begins, revisions_of, up_to_point}

@@ -21,9 +21,9 @@ use Rattle.mirror_client.specs.Points.{Point}
 use Rattle.mirror_client.specs.Stages.{Begun, Stage, Walks, listings_in}
 use Rattle.mirror_client.specs.Steps.{held_after, with_listings}
 use Rattle.mirror_client.proofs.FilterFacts.{caught_up, followers_hold_the_filter}
-use Rattle.followed_shares.specs.Served.{Rise}
+use Rattle.share_meetings.specs.ServedRuns.{Rise}
 use Rattle.share_history.specs.Whole.{IsWhole}
-use Rattle.followed_shares.proofs.FilterShown.{owed_split}
+use Rattle.link_commands.proofs.FirstReply.{owed_split}
 use Rattle.share_meetings.specs.MirrorLaws.{WalkersHoldTheShare}
 use Rattle.share_meetings.specs.Links.{ServedLink}
 use Rattle.share_meetings.specs.Mirrors.{AreBehindLogin, BeganWell, CanBeAsked, HoldsLast, HoldsTheShare}

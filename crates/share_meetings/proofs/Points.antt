@@ -18,7 +18,7 @@ use Rattle.share_server.specs.declared.report.Served.{Served}
 use Rattle.share_server.specs.Passes.{Rises}
 use Rattle.share_server.specs.Served.{at_point}
 use Rattle.mirror_client.specs.Laws.{AreAnswers}
-use Rattle.followed_shares.specs.Served.{Rise}
+use Rattle.share_meetings.specs.ServedRuns.{Rise}
 use Rattle.share_meetings.specs.Mirrors.{AreBehindLogin, AreListed, AreNew}
 use Rattle.share_meetings.proofs.Prefixes.{IsPrefix, prefix_both, prefix_longer, prefix_revision}
 use Rattle.share_meetings.specs.Shown.{AreAfterLogin, AreAnsweredBehind, AreRising}

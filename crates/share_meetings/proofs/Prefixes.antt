@@ -14,7 +14,7 @@ use Rattle.share_history.proofs.EditFacts.{batches-append}
 use Rattle.share_server.specs.declared.report.Served.{Served}
 use Rattle.share_server.specs.Served.{answered_on, at_point}
 use Rattle.mirror_client.specs.Laws.{AreAnswers, NeverFall, last_point}
-use Rattle.followed_shares.specs.Served.{Rise}
+use Rattle.share_meetings.specs.ServedRuns.{Rise}
 use Rattle.share_history.specs.Whole.{IsWhole}
 use Rattle.share_meetings.specs.Mirrors.{AreListed, IsListed}
 use Rattle.share_history.proofs.WholeFacts.{point_whole}

@@ -32,7 +32,7 @@ use Rattle.link_commands.specs.Looks.{AsksMirror}
 use Rattle.link_commands.specs.Meanings.{Happens, IsCutBehind, ending_status}
 use Rattle.link_commands.specs.RoundLines.{round_lines, shown_rows}
 use Rattle.link_commands.proofs.LinkedFacts.{owed_is}
-use Rattle.followed_shares.specs.Served.{Rise}
+use Rattle.share_meetings.specs.ServedRuns.{Rise}
 use Rattle.share_meetings.specs.Mirrors.{AreBehindLogin, AreListed, AreNew, HoldsLast, HoldsTheShare}
 use Rattle.share_meetings.proofs.Meeting.{walkers_hold_the_share, written_before}
 use Rattle.share_meetings.proofs.Prefixes.{rise_short}

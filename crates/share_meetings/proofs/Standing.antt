@@ -31,10 +31,11 @@ use Rattle.mirror_client.specs.Stages.{Asking, Begun, Closed, Holding, Leads, Le
 use Rattle.mirror_client.specs.Steps.{Known, held_after, with_listings}
 use Rattle.mirror_client.proofs.ServedFacts.{told_listing}
 use Rattle.mirror_client.proofs.StageFacts.{held_more}
-use Rattle.followed_shares.specs.Served.{Rise}
+use Rattle.share_meetings.specs.ServedRuns.{Rise}
 use Rattle.share_history.specs.Whole.{IsWhole}
-use Rattle.followed_shares.proofs.BodiesRead.{listing_body_read, small_revision}
-use Rattle.followed_shares.proofs.FilterShown.{learned, split_on, tells}
+use Rattle.share_meetings.proofs.BodiesRead.{listing_body_read, small_revision}
+use Rattle.link_commands.proofs.FirstReply.{split_on}
+use Rattle.share_meetings.proofs.FilterShown.{learned, tells}
 use Rattle.share_meetings.specs.Mirrors.{AreBehindLogin, AreListed, AreNew, CanBeAsked, IsBehindLogin, IsListed}
 use Rattle.share_meetings.proofs.Answering.{Answered, answered}
 use Rattle.share_meetings.proofs.Asking.{codes_back, codes_say, login_back, login_says, logout_back, logout_says, rows_back, rows_say, told_session, update_back, update_says}

@@ -36,11 +36,12 @@ use Rattle.mirror_client.specs.Stages.{Asking, Begun, Closed, Holding, Learned, 
 use Rattle.mirror_client.specs.Steps.{Known, UnexpectedEnd, UnexpectedListing, UnexpectedTable, held_after, with_listings}
 use Rattle.mirror_client.specs.Stopping.{Stops}
 use Rattle.mirror_client.specs.Tellings.{UnexpectedNumber}
-use Rattle.followed_shares.specs.Served.{Serves, due_status}
+use Rattle.share_meetings.specs.ServedRuns.{Serves, due_status}
 use Rattle.share_history.specs.Whole.{IsWhole}
-use Rattle.followed_shares.proofs.Completes.{IsOutside, end_due, listing_due, number_due, stops_outside, table_due}
-use Rattle.followed_shares.proofs.FilterShown.{left_owed, login_tag, owed_split, revision_tag}
-use Rattle.followed_shares.proofs.Successes.{Begins, good_status, success_is}
+use Rattle.link_commands.proofs.FirstReply.{Begins, IsOutside, left_owed, owed_split, stops_outside}
+use Rattle.share_meetings.proofs.Completes.{end_due, listing_due, number_due, table_due}
+use Rattle.share_meetings.proofs.FilterShown.{login_tag, revision_tag}
+use Rattle.share_meetings.proofs.Successes.{good_status, success_is}
 use Rattle.share_meetings.specs.MirrorLaws.{FollowersAreNotStopped}
 use Rattle.share_meetings.specs.Links.{IsSuccess}
 use Rattle.share_meetings.specs.Mirrors.{CanBeAsked}

@@ -1,7 +1,11 @@
+pub mod ServedRuns
+pub mod FollowerLaws
 pub mod Links
 pub mod Mirrors
 pub mod Examples
 pub mod MirrorLaws
+pub mod CommandLaws
+pub mod RelayLaws
 pub mod Texts
 pub mod Shown
 pub mod Meetings

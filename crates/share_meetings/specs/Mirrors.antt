@@ -15,7 +15,7 @@ use Rattle.http_client.specs.Requests.{HasListNumber, IsHost, IsNamed, IsWithinL
 use Rattle.http_client.specs.Targets.{IsText}
 use Rattle.mirror_core.specs.Mirrored.{Mirrored}
 use Rattle.mirror_client.specs.Laws.{AreAnswers, last_point}
-use Rattle.followed_shares.specs.Served.{Rise}
+use Rattle.share_meetings.specs.ServedRuns.{Rise}
 use Rattle.share_meetings.specs.Links.{IsReport}
 
 -- A server reads the requests of this mirror to this host as they were meant.

@@ -1,8 +1,52 @@
-//! Laws of what one end of a connection makes of what the other did: of all mirrors and the shares that they follow, and
-//! of all runs of `serve`, `relay` and `follow` that met. Each function has an empty body; its contract is a theorem.
+//! Laws of what one end of a connection makes of what the other did: of all mirrors and the shares that they follow, of
+//! all runs of `follow`, `edit` and `relay` that reach a share, and of all runs that met. Each function has an empty
+//! body; its contract is a theorem.
 
+ghost use Rattle.share_meetings.specs.CommandLaws.{EditGoesOn, FollowGoesOn};
+ghost use Rattle.share_meetings.specs.FollowerLaws.{FollowersHoldTheRows, ServedRunsGoOn};
 ghost use Rattle.share_meetings.specs.Laws.{FollowShowsAnyShare, LaterConnectionsBeginWell, RelaysAShare, ServesAShare};
 ghost use Rattle.share_meetings.specs.MirrorLaws.{EndedLinksAreServed, FollowersAreNotStopped, MirrorsAreServed, WalkersHoldTheShare, WorkersLinksAreServed};
+ghost use Rattle.share_meetings.specs.RelayLaws.{RunsSucceed, ServedRelaysGoOn, ServedRunsSucceed};
+
+/// A mirror that followed a share holds the rows that the share had at the revision of its last round.
+pub fn followers_hold_the_rows()
+    ensures { FollowersHoldTheRows }
+{}
+
+/// What a share sends stops no client that follows it.
+pub fn served_runs_go_on()
+    ensures { ServedRunsGoOn }
+{}
+
+/// If a share responds to each request of a run of `follow`, for all its rounds, then the run succeeds, except for failed
+/// allocations and errors outside.
+pub fn follow_goes_on()
+    ensures { FollowGoesOn }
+{}
+
+/// If a share responds to a run of `edit` with a success, then the run succeeds, except for failed allocations and errors
+/// outside.
+pub fn edit_goes_on()
+    ensures { EditGoesOn }
+{}
+
+/// If a share responds to each request of a relay, then only a failed call on the connection, a failed allocation or the
+/// relay's own share ends the relay early.
+pub fn served_relays_go_on()
+    ensures { ServedRelaysGoOn }
+{}
+
+/// If a share responds to each request of the relay of a run, and nothing outside fails, then the status is 0, except for
+/// failed allocations, for workers that served as much as they may, and for a library that the relay's share has no
+/// capacity for.
+pub fn served_runs_succeed()
+    ensures { ServedRunsSucceed }
+{}
+
+/// The same of each run of `relay`, by what the connection that is made next has to read.
+pub fn runs_succeed()
+    ensures { RunsSucceed }
+{}
 
 /// A connection that was served to its end is a `ServedLink`: it has the requests and the responses that the next laws are
 /// about.
