@@ -30,7 +30,7 @@ use Rattle.command_core.specs.Seen.{NetSeen, OutputSeen}
 use Rattle.link_commands.specs.Linked.{LinkSeen, start_of}
 use Rattle.link_commands.proofs.LinkedFacts.{owed_is}
 use Rattle.share_crew.specs.declared.outcome.Outcome.{Outcome}
-use Rattle.share_crew.specs.Stints.{returns_of}
+use Rattle.share_crew.specs.WorkerRuns.{returns_of}
 use Rattle.relay_command.specs.declared.terms.Relaying.{Relaying}
 use Rattle.relay_command.specs.Lines.{relaying_line}
 use Rattle.relay_command.specs.Runs.{HasNoShare, HasServed, RelayEnds}

@@ -30,12 +30,12 @@ use Rattle.kept_library.specs.Opening.{StandsAt, bytes_at}
 use Rattle.mirror_core.specs.Mirrored.{Mirrored}
 use Rattle.share_meetings.specs.Mirrors.{HeldBefore}
 use Rattle.command_core.specs.ReadRecords.{HasReadAs}
-use Rattle.command_core.specs.Seen.{NetSeen, Told}
+use Rattle.command_core.specs.Seen.{NetSeen, Run}
 use Rattle.serve_command.specs.declared.terms.Serving.{Serving}
 use Rattle.serve_command.specs.Files.{AreKept, IsKept, IsOpening, LeavesBut}
-use Rattle.serve_command.specs.Runs.{HasNoShare, Left, ServeEnds, served, unbegun, unopened}
+use Rattle.serve_command.specs.Runs.{HasNoShare, ServeOutcome, ServeEnds, served, unbegun, unopened}
 use Rattle.serve_command.specs.Terms.{settings_of}
-use Rattle.share_crew.specs.Stints.{IsPart, Stint, returns_of}
+use Rattle.share_crew.specs.WorkerRuns.{IsPart, WorkerRun, returns_of}
 use Rattle.share_crew.specs.Verdicts.{has_end}
 use Rattle.share_meetings.specs.Meetings.{IsServedOn}
 use Rattle.share_meetings.proofs.Crews.{worker_in}
@@ -105,26 +105,26 @@ mapped_at f (y ∷ ys) (suc n) x at = mapped_at f ys n x at
 abbrev ServesSince : (opened h : List Entry) (net net' : NetSeen) (links : List (List LinkReport)) → Type 0
 ServesSince opened h net net' links = (input output : List ℕ) → (on : IsServedOn net net' links input output) → Rises (length opened) on.report.served (length h)
 
-serves_since : {settings : Settings} {opened : List Entry} (crew : List (Stint settings opened)) (h : List Entry) (net net' : NetSeen) (links : List (List LinkReport))
-    → AllByRecursion (IsPart h) crew → links ≡ map (λ (s : Stint settings opened). s.reports) crew
-    → ((input output : List ℕ) → (on : IsServedOn net net' links input output) → (s : Stint settings opened) × (slice_get crew on.worker ≡ Some s)) → ServesSince opened h net net' links
+serves_since : {settings : Settings} {opened : List Entry} (crew : List (WorkerRun settings opened)) (h : List Entry) (net net' : NetSeen) (links : List (List LinkReport))
+    → AllByRecursion (IsPart h) crew → links ≡ map (λ (s : WorkerRun settings opened). s.reports) crew
+    → ((input output : List ℕ) → (on : IsServedOn net net' links input output) → (s : WorkerRun settings opened) × (slice_get crew on.worker ≡ Some s)) → ServesSince opened h net net' links
 serves_since {settings = settings} {opened = opened} crew h net net' links parts are found input output on =
     let at = found input output on in
-    let stint : Stint settings opened = at.0 in
-    let part : IsPart h stint = each_at (λ s. IsPart h s) crew on.worker stint parts at.1 in
-    let worked : Some stint.reports ≡ Some on.reports =
-    sym (mapped_at (λ (s : Stint settings opened). s.reports) crew on.worker stint at.1) ∙ ap (λ (ls : List (List LinkReport)). slice_get ls on.worker) (sym are) ∙ on.worked in
-    let same : stint.reports ≡ on.reports = cc in
-    let reported : slice_get stint.reports on.number ≡ Some on.report = ap (λ (rs : List LinkReport). slice_get rs on.number) same ∙ on.reported in
-    let longer : length stint.pass.seen ≤ length h =
-    (let parts = ap (λ (k : List Entry). length k) part.begins in let both = length-append stint.pass.seen part.later in omega (arith, parts, both)) in
-    rises_at (length opened) (length h) stint.reports on.number on.report
-    (rises_wider (length opened) (length opened) (length stint.pass.seen) (length h) (all_served stint.reports) (omega arith) longer stint.served.works.serves.fresh.rises) reported
+    let worker_run : WorkerRun settings opened = at.0 in
+    let part : IsPart h worker_run = each_at (λ s. IsPart h s) crew on.worker worker_run parts at.1 in
+    let worked : Some worker_run.reports ≡ Some on.reports =
+    sym (mapped_at (λ (s : WorkerRun settings opened). s.reports) crew on.worker worker_run at.1) ∙ ap (λ (ls : List (List LinkReport)). slice_get ls on.worker) (sym are) ∙ on.worked in
+    let same : worker_run.reports ≡ on.reports = cc in
+    let reported : slice_get worker_run.reports on.number ≡ Some on.report = ap (λ (rs : List LinkReport). slice_get rs on.number) same ∙ on.reported in
+    let longer : length worker_run.pass.seen ≤ length h =
+    (let parts = ap (λ (k : List Entry). length k) part.begins in let both = length-append worker_run.pass.seen part.later in omega (arith, parts, both)) in
+    rises_at (length opened) (length h) worker_run.reports on.number on.report
+    (rises_wider (length opened) (length opened) (length worker_run.pass.seen) (length h) (all_served worker_run.reports) (omega arith) longer worker_run.served.works.serves.fresh.rises) reported
 
 -- ---- two runs
 
 -- the share of a run with a file
-record Ran (path : List ℕ) (told : Told) (left : Left) (h : List Entry) : Type 0 where
+record Ran (path : List ℕ) (told : Run) (left : ServeOutcome) (h : List Entry) : Type 0 where
   lost : Bool
   kept : IsKept path told.before.around.files told.after.around.files h lost
   stood : List (List Edit)
@@ -135,17 +135,17 @@ record Ran (path : List ℕ) (told : Told) (left : Left) (h : List Entry) : Type
   begins : h ≡ opened_with (stood ++ if_filled edits) ++ later
   since : ServesSince (opened_with (stood ++ if_filled edits)) h told.before.around.net told.after.around.net left.links
 
-none_left : {T : Type 0} (left : Left) (h : List Entry) → HasNoShare left → left.history ≡ Some h → T
+none_left : {T : Type 0} (left : ServeOutcome) (h : List Entry) → HasNoShare left → left.history ≡ Some h → T
 none_left left h none is = let bad : None ≡ Some h = sym none.history ∙ is in absurd (cc)
 
-known_history : (left : Left) (g h : List Entry) → left.history ≡ Some g → left.history ≡ Some h → g ≡ h
+known_history : (left : ServeOutcome) (g h : List Entry) → left.history ≡ Some g → left.history ≡ Some h → g ≡ h
 known_history left g h one other = let same : Some g ≡ Some h = sym one ∙ other in cc
 
-ran : (serving : Serving) (path : List ℕ) (told : Told) (left : Left) (h : List Entry) → ServeEnds serving told left → serving.file ≡ Some path → left.history ≡ Some h → Ran path told left h
+ran : (serving : Serving) (path : List ℕ) (told : Run) (left : ServeOutcome) (h : List Entry) → ServeEnds serving told left → serving.file ≡ Some path → left.history ≡ Some h → Ran path told left h
 ran serving path told left h (unopened stop fails unread files tells none) file is = none_left left h none is
 ran serving path told left h (unbegun asked faults begun none) file is = none_left left h none is
 ran serving path told left h (served edits opened read opens run) file is =
-    let lost : Bool = has_end FileFault (map (λ (s : Stint (settings_of serving) opened). s.end) run.crew) in
+    let lost : Bool = has_end FileFault (map (λ (s : WorkerRun (settings_of serving) opened). s.end) run.crew) in
     let history : run.history ≡ h = known_history left run.history h run.history_is is in
     let kept : IsKept path told.before.around.files told.after.around.files run.history lost =
     subst (λ (f : Option (List ℕ)). AreKept f told.before.around.files told.after.around.files run.history lost) file run.kept_so in
@@ -157,7 +157,7 @@ ran serving path told left h (served edits opened read opens run) file is =
     let at =
     worker_in run.crew told.before.around.net told.after.around.net left.links [] input output run.links run.to_come
     (subst (λ (more : List Returned). Grows told.before.around.net.written told.after.around.net.written more) (sym (append-nil (flat_map returns_of run.crew))) run.written) on in
-    (at.stint, at.is_stint)) in
+    (at.worker_run, at.is_worker_run)) in
     record {
       lost = lost;
       kept = subst (λ (k : List Entry). IsKept path told.before.around.files told.after.around.files k lost) history kept;
@@ -172,7 +172,7 @@ ran serving path told left h (served edits opened read opens run) file is =
           (subst (λ (o : List Entry). ServesSince o run.history told.before.around.net told.after.around.net left.links) began.2 since);
     }
 
-module _ (told told' : Told) (h h' : List Entry) (r : IsRestart told told' h h') where
+module _ (told told' : Run) (h h' : List Entry) (r : IsRestart told told' h h') where
   one_run : Ran r.path told r.left h
   one_run = ran r.first r.path told r.left h r.ends r.with_file r.history_is
 
@@ -237,7 +237,7 @@ restarts_keep_revisions told told' h h' v g of =
 opened-append : (bs cs : List (List Edit)) → opened_with (bs ++ cs) ≡ opened_with bs ++ opened_with cs
 opened-append bs cs = map-append (λ batch. Edits 0 batch) bs cs
 
-module _ (told told' : Told) (h h' : List Entry) (r : IsRestart told told' h h') (one : Ran r.path told r.left h) (next : Ran r.path told' r.left' h') where
+module _ (told told' : Run) (h h' : List Entry) (r : IsRestart told told' h h') (one : Ran r.path told r.left h) (next : Ran r.path told' r.left' h') where
   holds_on : (m : Mirrored) (v : ℕ) (input output : List ℕ) → v ≤ revision (batches h) → (one.lost ≡ true → v < revision (batches h))
       → m.held ≡ mirrored (up_to (batches h) v) m.target m.query m.meta → (on : IsServedOn told'.before.around.net told'.after.around.net r.left'.links input output) → HeldBefore m h' on.report.served
   holds_on m v input output within sound holds on =

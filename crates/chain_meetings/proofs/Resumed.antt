@@ -10,25 +10,25 @@ use Rattle.share_core.proofs.Opening.{batches-opened}
 use Rattle.edit_file.specs.Standing.{FileStands}
 use Rattle.edit_file.proofs.Once.{one_list}
 use Rattle.kept_library.specs.Opening.{StandsAt, bytes_at}
-use Rattle.command_core.specs.Seen.{Told}
+use Rattle.command_core.specs.Seen.{Run}
 use Rattle.serve_command.specs.declared.terms.Serving.{Serving}
 use Rattle.serve_command.specs.Files.{IsOpening}
-use Rattle.serve_command.specs.Laws.{HasAcknowledged, HasUnder, KeepsAll, acknowledged}
-use Rattle.serve_command.specs.Runs.{HasNoShare, Left, ServeEnds, served, unbegun, unopened}
+use Rattle.serve_command.specs.Laws.{HasAcknowledged, HasUnder, KeepsAll, acknowledged_batches}
+use Rattle.serve_command.specs.Runs.{HasNoShare, ServeOutcome, ServeEnds, served, unbegun, unopened}
 use Rattle.serve_command.proofs.Keeping.{acknowledged_batches_stay}
 use Rattle.chain_meetings.specs.Sequels.{AcknowledgedBatchesGoOn, IsLaterRun, RunsLead, no_run, one_more}
 
 -- a run that left a history began with what its file represented
-record Begins (path : List ℕ) (told : Told) (h : List Entry) : Type 0 where
+record Begins (path : List ℕ) (told : Run) (h : List Entry) : Type 0 where
   stood : List (List Edit)
   stands : StandsAt told.before.around.files.contents path stood
   others : List (List Edit)
   are : batches h ≡ stood ++ others
 
-none_left : {T : Type 0} (left : Left) (h : List Entry) → HasNoShare left → left.history ≡ Some h → T
+none_left : {T : Type 0} (left : ServeOutcome) (h : List Entry) → HasNoShare left → left.history ≡ Some h → T
 none_left left h none is = let bad : None ≡ Some h = sym none.history ∙ is in absurd (cc)
 
-begins : (serving : Serving) (path : List ℕ) (told : Told) (left : Left) (h : List Entry) → ServeEnds serving told left → serving.file ≡ Some path → left.history ≡ Some h → Begins path told h
+begins : (serving : Serving) (path : List ℕ) (told : Run) (left : ServeOutcome) (h : List Entry) → ServeEnds serving told left → serving.file ≡ Some path → left.history ≡ Some h → Begins path told h
 begins serving path told left h (unopened stop fails unread files tells none) file is = none_left left h none is
 begins serving path told left h (unbegun asked faults begun none) file is = none_left left h none is
 begins serving path told left h (served edits opened read opens run) file is =
@@ -74,7 +74,7 @@ acknowledged_batches_go_on told told' left h h' r =
     let next : Begins r.path told' h' = begins r.later r.path told' r.left' h' r.ends' r.same_file r.history_is' in
     let found : FileStands (bytes_at there.1.told r.path) next.stood = subst (λ (c : Option Contents). StandsAt c r.path next.stood) there.1.is next.stands in
     let same : next.stood ≡ (one.stood ++ kept.more) ++ there.0 = one_list (bytes_at there.1.told r.path) next.stood ((one.stood ++ kept.more) ++ there.0) found there.1.stands in
-    let acked : List (List Edit) = acknowledged h has.editor in
+    let acked : List (List Edit) = acknowledged_batches h has.editor in
     record {
       stood = one.stood;
       stands = one.stands;

@@ -19,7 +19,7 @@ use Rattle.share_meetings.proofs.Prefixes.{IsPrefix, prefix_revision}
 use Rattle.share_meetings.specs.Shown.{AreRising}
 use Rattle.share_meetings.specs.Texts.{rows_text}
 use Rattle.link_commands.specs.RoundLines as lines
-use Rattle.chain_meetings.specs.Chains.{Ascend, ChainsShowRows, FollowersShowTheFirst, item_rows}
+use Rattle.chain_meetings.specs.Chains.{AreAscending, ChainsShowRows, FollowersShowTheFirst, item_rows}
 use Rattle.chain_meetings.specs.Orders.{ShowsInOrder, library_at}
 use Rattle.chain_meetings.proofs.Chained.{chains_show_in_order}
 use Rattle.chain_meetings.proofs.Ordered.{begins_all}
@@ -48,7 +48,7 @@ until_later (suc m) (suc n) (Logout by id ∷ h) less = prefix_cons (Logout by i
 until_later (suc m) (suc n) (Stop by ∷ h) less = prefix_cons (Stop by) (until_edits (suc m) h) (until_edits (suc n) h) (until_later (suc m) (suc n) h less)
 
 -- at revisions that ascend the histories rise
-rise_at : (h : List Entry) (base last : ℕ) (vs : List ℕ) → Ascend base last vs → Rise (map (at_revision h) vs) h
+rise_at : (h : List Entry) (base last : ℕ) (vs : List ℕ) → AreAscending base last vs → Rise (map (at_revision h) vs) h
 rise_at h base last [] up = tt
 rise_at h base last (v ∷ []) up = (until_begins (v - first_revision) h, tt)
 rise_at h base last (v ∷ w ∷ vs) up =
@@ -56,12 +56,12 @@ rise_at h base last (v ∷ w ∷ vs) up =
 
 -- and the revisions of histories that rise ascend
 ascend_at : (base : ℕ) (p : List Entry) (points : List (List Entry)) (h : List Entry) → base ≤ revision (batches p) → Rise (p ∷ points) h
-    → Ascend base (revision (batches h)) (map (λ (point : List Entry). revision (batches point)) (p ∷ points))
+    → AreAscending base (revision (batches h)) (map (λ (point : List Entry). revision (batches point)) (p ∷ points))
 ascend_at base p [] h above rise = (above, prefix_revision p h rise.0, tt)
 ascend_at base p (q ∷ points) h above rise =
     (above, prefix_revision p h (begins_all p (q ∷ points) h rise), ascend_at (revision (batches p)) q points h (prefix_revision p q rise.0) rise.1)
 
-ascend_all : (points : List (List Entry)) (h : List Entry) → Rise points h → Ascend 0 (revision (batches h)) (map (λ (point : List Entry). revision (batches point)) points)
+ascend_all : (points : List (List Entry)) (h : List Entry) → Rise points h → AreAscending 0 (revision (batches h)) (map (λ (point : List Entry). revision (batches point)) points)
 ascend_all [] h rise = tt
 ascend_all (p ∷ points) h rise = ascend_at 0 p points h (omega arith) rise
 
@@ -95,8 +95,8 @@ module _ (query : Option Query) (meta : Meta) where
       (ap (λ (bs : List (List Edit)). rows_by (library (edits bs))) (sym (batches_there p h (begins_all p points h rise))) ∙ sym (rows_then h (revision (batches p))))
       (rows_found h points rise.1)
 
-  rows_in_order : (up down : List Entry) (vs : List ℕ) → ShowsInOrder up down → Ascend 0 (revision (batches down)) vs
-      → (ws : List ℕ) × Ascend 0 (revision (batches up)) ws × (map (item_rows query meta down) vs ≡ map (item_rows query meta up) ws)
+  rows_in_order : (up down : List Entry) (vs : List ℕ) → ShowsInOrder up down → AreAscending 0 (revision (batches down)) vs
+      → (ws : List ℕ) × AreAscending 0 (revision (batches up)) ws × (map (item_rows query meta down) vs ≡ map (item_rows query meta up) ws)
   rows_in_order up down vs shows ascending =
       let seen = shows (map (at_revision down) vs) (rise_at down 0 (revision (batches down)) vs ascending) in (
         map (λ (point : List Entry). revision (batches point)) seen.0,
@@ -109,7 +109,7 @@ chains_show_rows up down query meta vs chain ascending = rows_in_order query met
 
 -- ---- the rows that `follow` writes
 
-rising_ascends : (base last : ℕ) (vs : List ℕ) → AreRising base last vs → Ascend base last vs
+rising_ascends : (base last : ℕ) (vs : List ℕ) → AreRising base last vs → AreAscending base last vs
 rising_ascends base last [] rising = tt
 rising_ascends base last (v ∷ vs) rising = (let less = rising.0 in omega (arith, less), rising.1, rising_ascends v last vs rising.2)
 

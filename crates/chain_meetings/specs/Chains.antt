@@ -8,12 +8,12 @@ use Rattle.item_model.specs.declared.request.Target.TheVariants.{Items}
 use Rattle.share_history.specs.Histories.{batches, revision, up_to}
 use Rattle.share_history.specs.Mirror.{mirrored}
 use Rattle.http_client.specs.Requests.{IsHost}
-use Rattle.command_core.specs.Seen.{NetSeen, OutputSeen, Told}
+use Rattle.command_core.specs.Seen.{NetSeen, OutputSeen, Run}
 use Rattle.share_crew.specs.declared.outcome.Outcome.{Outcome}
 use Rattle.relay_command.specs.declared.terms.Relaying.{Relaying}
 use Rattle.relay_command.specs.Runs.{RelayEnds}
 use Rattle.serve_command.specs.declared.terms.Serving.{Serving}
-use Rattle.serve_command.specs.Runs.{Left, ServeEnds}
+use Rattle.serve_command.specs.Runs.{ServeOutcome, ServeEnds}
 use Rattle.share_meetings.specs.Meetings.{Meets}
 use Rattle.share_meetings.specs.Shown.{AreRising}
 use Rattle.share_meetings.specs.Texts.{rows_text}
@@ -22,7 +22,7 @@ use Rattle.chain_meetings.specs.Orders.{ShowsInOrder, StepsThrough}
 -- A run of `serve` or of `relay` left the history `h`, and one of the connections that it served is the one that a
 -- client made.
 pub data MeetsAShare (h : List Entry) (client client' : NetSeen) : Type 0 where
-  served : (serving : Serving) (told : Told) (left : Left) → ServeEnds serving told left → left.history ≡ Some h
+  served : (serving : Serving) (told : Run) (left : ServeOutcome) → ServeEnds serving told left → left.history ≡ Some h
       → Meets told.before.around.net told.after.around.net left.links client client' → MeetsAShare h client client'
   relayed : (relaying : Relaying) (net net' : NetSeen) (output output' : OutputSeen) (left : Outcome) → RelayEnds relaying net net' output output' left → left.history ≡ Some h
       → Meets net net' left.links client client' → MeetsAShare h client client'
@@ -57,9 +57,9 @@ abbrev pub ChainsShowInOrder : Type 0
 ChainsShowInOrder = (up down : List Entry) → IsBehind up down → ShowsInOrder up down
 
 -- no revision is below the one before, and none above the last
-abbrev pub Ascend : (base last : ℕ) → List ℕ → Type 0
-Ascend base last [] = ⊤
-Ascend base last (v ∷ vs) = (base ≤ v) × (v ≤ last) × Ascend v last vs
+abbrev pub AreAscending : (base last : ℕ) → List ℕ → Type 0
+AreAscending base last [] = ⊤
+AreAscending base last (v ∷ vs) = (base ≤ v) × (v ≤ last) × AreAscending v last vs
 
 -- the rows of a mirror of items at a revision
 abbrev pub item_rows : Option Query → Meta → List Entry → ℕ → List (ℕ × Tree)
@@ -69,12 +69,12 @@ item_rows query meta h v = (mirrored (up_to (batches h) v) Items query meta).row
 -- order, with the same rows.
 abbrev pub ChainsShowRows : Type 0
 ChainsShowRows =
-    (up down : List Entry) (query : Option Query) (meta : Meta) (revisions : List ℕ) → IsBehind up down → Ascend 0 (revision (batches down)) revisions
-    → (firsts : List ℕ) × Ascend 0 (revision (batches up)) firsts × (map (item_rows query meta down) revisions ≡ map (item_rows query meta up) firsts)
+    (up down : List Entry) (query : Option Query) (meta : Meta) (revisions : List ℕ) → IsBehind up down → AreAscending 0 (revision (batches down)) revisions
+    → (firsts : List ℕ) × AreAscending 0 (revision (batches up)) firsts × (map (item_rows query meta down) revisions ≡ map (item_rows query meta up) firsts)
 
 -- So the rows that `follow` writes of the last relay, at its end, are those of the first share at one of its revisions.
 -- Up to 2 these have no batches, so there are no rows.
 abbrev pub FollowersShowTheFirst : Type 0
 FollowersShowTheFirst =
     (up down : List Entry) (query : Option Query) (meta : Meta) (revisions : List ℕ) → IsBehind up down → AreRising 0 (revision (batches down)) revisions
-    → (firsts : List ℕ) × Ascend 0 (revision (batches up)) firsts × (rows_text Items query meta (batches down) revisions ≡ rows_text Items query meta (batches up) firsts)
+    → (firsts : List ℕ) × AreAscending 0 (revision (batches up)) firsts × (rows_text Items query meta (batches down) revisions ≡ rows_text Items query meta (batches up) firsts)

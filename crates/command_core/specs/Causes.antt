@@ -18,9 +18,9 @@ pub data Cause : Type 1 where
   OfInput : Type 0 → (List ℕ → Type 0) → Cause
 
 -- arguments and input have the cause
-abbrev pub Says : Cause → List ℕ → Type 0
-Says (OfWords words) input = words
-Says (OfInput words said) input = words × said input
+abbrev pub HasCause : Cause → List ℕ → Type 0
+HasCause (OfWords words) input = words
+HasCause (OfInput words said) input = words × said input
 
 -- what was read, except for a last part of at most one read, is such that the command reads further
 pub record HasReadOn (reads_on : List ℕ → Type 0) (before after : InputSeen) : Type 0 where
@@ -44,12 +44,12 @@ pub record IsReadFault (reads_on : List ℕ → Type 0) (before after : InputSee
   pub on : reads_on bytes
   pub rose : Rose before.faults after.faults
 
-abbrev pub Comes : (reads_on : List ℕ → Type 0) → Cause → InputSeen → InputSeen → Type 0
-Comes reads_on (OfWords words) before after = words × IsUnread before after
-Comes reads_on (OfInput words said) before after = IsFaultOf reads_on words said before after
+abbrev pub StopsAtCause : (reads_on : List ℕ → Type 0) → Cause → InputSeen → InputSeen → Type 0
+StopsAtCause reads_on (OfWords words) before after = words × IsUnread before after
+StopsAtCause reads_on (OfInput words said) before after = IsFaultOf reads_on words said before after
 
 -- how a command stops with an error; `cause` has those of its own errors, and `wants` says when memory may run out
 abbrev pub StopsBy : {F : Type 0} → (F → Cause) → (reads_on : List ℕ → Type 0) → Type 0 → InputSeen → InputSeen → Fault F → Type 0
-StopsBy cause reads_on wants before after (Own own) = Comes reads_on (cause own) before after
+StopsBy cause reads_on wants before after (Own own) = StopsAtCause reads_on (cause own) before after
 StopsBy cause reads_on wants before after Read = IsReadFault reads_on before after
 StopsBy cause reads_on wants before after Memory = wants

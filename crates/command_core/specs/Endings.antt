@@ -5,9 +5,9 @@ use Rattle.outside_net.specs.Counts.{Rose}
 use Rattle.outside_net.specs.Told.{AppendsPrefix}
 use Rattle.command_core.specs.declared.fault.Fault.{Fault}
 use Rattle.command_core.specs.declared.outcome.Outcome.{Outcome}
-use Rattle.command_core.specs.Seen.{OutputSeen, ShareSeen, Told}
+use Rattle.command_core.specs.Seen.{OutputSeen, ShareSeen, Run}
 use Rattle.command_core.specs.Faults.{fault_line, fault_status}
-use Rattle.command_core.specs.Causes.{Says}
+use Rattle.command_core.specs.Causes.{HasCause}
 use Rattle.command_core.specs.Meanings.{Meaning, IsCause}
 
 pub data Ending (F : Type 0) : Type 0 where
@@ -37,42 +37,42 @@ pub record IsCut (before after : OutputSeen) (bytes : List ℕ) : Type 0 where
   pub rose : Rose before.faults after.faults
 
 -- `fault` ends the command after it wrote `front`, and leaves `share`
-pub record IsRefused (m : Meaning) (told : Told) (share : ShareSeen) (front : List ℕ) (fault : Fault m.fault) : Type 0 where
+pub record IsRefused (m : Meaning) (told : Run) (share : ShareSeen) (front : List ℕ) (fault : Fault m.fault) : Type 0 where
   pub cause : IsCause m told.before told.after fault
   pub left : m.leaves told.before told.after fault share
   pub written : m.is_front told.before told.after fault front
 
 -- what is true of a run that ended in this way
-abbrev pub Happens : (m : Meaning) → Told → ShareSeen → Ending m.fault → Type 0
-Happens m told share (Done output) =
+abbrev pub EndsAs : (m : Meaning) → Run → ShareSeen → Ending m.fault → Type 0
+EndsAs m told share (Done output) =
     m.is_done told.before told.after share output × IsWritten told.output_before told.output_after output
-Happens m told share (OutputCut output) =
+EndsAs m told share (OutputCut output) =
     m.is_begun told.before told.after share output × IsCut told.output_before told.output_after output
-Happens m told share (Refused front fault) =
+EndsAs m told share (Refused front fault) =
     IsRefused m told share front fault × IsWritten told.output_before told.output_after (front ++ fault_line m.line fault)
-Happens m told share (LineCut front fault) =
+EndsAs m told share (LineCut front fault) =
     IsRefused m told share front fault × IsCut told.output_before told.output_after (front ++ fault_line m.line fault)
 
 -- the run ended in one of these ways, with its status
-abbrev pub Ends : (m : Meaning) → Told → ℕ → ShareSeen → Type 0
-Ends m told status share = (ending : Ending m.fault) × (status ≡ ending_status m ending) × Happens m told share ending
+abbrev pub HasEnding : (m : Meaning) → Run → ℕ → ShareSeen → Type 0
+HasEnding m told status share = (ending : Ending m.fault) × (status ≡ ending_status m ending) × EndsAs m told share ending
 
 -- If the input is known and no read or write failed, arguments and input decide the status, except for out of memory.
-pub record Decides (m : Meaning) (input : List ℕ) (status : ℕ) : Type 0 where
+pub record DecidesStatus (m : Meaning) (input : List ℕ) (status : ℕ) : Type 0 where
   pub done : m.gives input → (status ≡ 0) ⊎ (status ≡ 9)
-  pub refused : (own : m.fault) → Says (m.cause own) input → (status ≡ m.status own) ⊎ (status ≡ 9)
+  pub refused : (own : m.fault) → HasCause (m.cause own) input → (status ≡ m.status own) ⊎ (status ≡ 9)
 
-abbrev pub IsDecided : Meaning → Told → ℕ → Type 0
+abbrev pub IsDecided : Meaning → Run → ℕ → Type 0
 IsDecided m told status =
     ¬ (Rose told.before.input.faults told.after.input.faults) → ¬ (Rose told.output_before.faults told.output_after.faults)
-    → IfSome told.before.input.left (λ input. Decides m input status)
+    → IfSome told.before.input.left (λ input. DecidesStatus m input status)
 
 -- what an outcome says of a share
 abbrev pub share_of : Outcome → ShareSeen
 share_of outcome = record { history = outcome.history }
 
 -- the outcome of a run is as the command's specification says
-pub record IsAnswered (m : Meaning) (told : Told) (outcome : Outcome) : Type 0 where
-  pub ends : Ends m told outcome.status (share_of outcome)
+pub record IsAnswered (m : Meaning) (told : Run) (outcome : Outcome) : Type 0 where
+  pub ends : HasEnding m told outcome.status (share_of outcome)
   pub decided : IsDecided m told outcome.status
   pub always : m.always told outcome

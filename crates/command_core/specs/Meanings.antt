@@ -2,7 +2,7 @@
 use Rattle.std.specs.Prelude.{◌≡◌, ℕ, List, []}
 use Rattle.command_core.specs.declared.fault.Fault.{Fault}
 use Rattle.command_core.specs.declared.outcome.Outcome.{Outcome}
-use Rattle.command_core.specs.Seen.{InputSeen, Seen, ShareSeen, IsUnread, Told, no_share}
+use Rattle.command_core.specs.Seen.{InputSeen, Seen, ShareSeen, IsUnread, Run, no_share}
 use Rattle.command_core.specs.Causes.{Cause, StopsBy}
 
 pub record Meaning : Type 1 where
@@ -26,7 +26,7 @@ pub record Meaning : Type 1 where
   -- what it may have read when an allocation fails
   pub may_want : Seen → Seen → Type 0
   -- what is true of every run, however it ends
-  pub always : Told → Outcome → Type 0
+  pub always : Run → Outcome → Type 0
 
 -- what has to hold if a command ends with `fault`
 abbrev pub IsCause : (m : Meaning) → Seen → Seen → Fault m.fault → Type 0
@@ -41,7 +41,7 @@ abbrev pub leaves_no_share : {F : Type 0} → Seen → Seen → Fault F → Shar
 leaves_no_share before after fault share = share ≡ no_share
 
 -- .. of whose runs nothing more is said
-abbrev pub says_no_more : Told → Outcome → Type 0
+abbrev pub says_no_more : Run → Outcome → Type 0
 says_no_more told outcome = Unit {0}
 
 -- .. that reads its input

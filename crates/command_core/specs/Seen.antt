@@ -29,7 +29,7 @@ pub record IsUnread (before after : InputSeen) : Type 0 where
   pub faults : after.faults ≡ before.faults
 
 -- a run: what is known before it and after it
-pub record Told : Type 0 where
+pub record Run : Type 0 where
   pub before : Seen
   pub after : Seen
   pub output_before : OutputSeen
@@ -49,15 +49,15 @@ net_seen asked written listener_links next_input faults =
     record { asked = asked; written = written; listener_links = listener_links; next_input = next_input; faults = faults }
 
 -- all of these at a moment
-abbrev pub seen : InputSeen → FilesSeen → NetSeen → Seen
-seen input files net = record { input = input; around = record { files = files; net = net } }
+abbrev pub seen_of : InputSeen → FilesSeen → NetSeen → Seen
+seen_of input files net = record { input = input; around = record { files = files; net = net } }
 
-abbrev pub told_in : (before after : Seen) (output_before output_after : OutputSeen) → Told
-told_in before after output_before output_after = record { before = before; after = after; output_before = output_before; output_after = output_after }
+abbrev pub run_of : (before after : Seen) (output_before output_after : OutputSeen) → Run
+run_of before after output_before output_after = record { before = before; after = after; output_before = output_before; output_after = output_after }
 
 -- a run that leaves files unchanged
-abbrev pub told_over : FilesSeen → (input_before input_after : InputSeen) (net_before net_after : NetSeen) (output_before output_after : OutputSeen) → Told
-told_over files input_before input_after net_before net_after output_before output_after = record {
+abbrev pub run_over_net : FilesSeen → (input_before input_after : InputSeen) (net_before net_after : NetSeen) (output_before output_after : OutputSeen) → Run
+run_over_net files input_before input_after net_before net_after output_before output_after = record {
   before = record { input = input_before; around = record { files = files; net = net_before } };
   after = record { input = input_after; around = record { files = files; net = net_after } };
   output_before = output_before;
@@ -65,8 +65,8 @@ told_over files input_before input_after net_before net_after output_before outp
 }
 
 -- .. and the network too
-abbrev pub told_beside : Around → (input_before input_after : InputSeen) (output_before output_after : OutputSeen) → Told
-told_beside around input_before input_after output_before output_after = record {
+abbrev pub run_over_streams : Around → (input_before input_after : InputSeen) (output_before output_after : OutputSeen) → Run
+run_over_streams around input_before input_after output_before output_after = record {
   before = record { input = input_before; around = around };
   after = record { input = input_after; around = around };
   output_before = output_before;

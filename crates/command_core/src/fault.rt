@@ -17,17 +17,17 @@ pub enum Fault<E> {
 
 /// A command's own errors: the line that the user sees for each, and the status.
 pub trait Refusal {
-    ghost told_line: { Self → List ℕ };
+    ghost error_line: { Self → List ℕ };
 
-    ghost told_status: { Self → ℕ };
+    ghost error_status: { Self → ℕ };
 
     /// Returns the line, with its line feed.
     fn line(&self, alloc: Global) -> Result<Vec<u8>, AllocError>
-        ensures { IfOk result (λ line. line.items ≡ told_line self.now) };
+        ensures { IfOk result (λ line. line.items ≡ error_line self.now) };
 
     /// Returns the status that the program ends with.
     fn status(&self) -> u8
-        ensures { result ≡ told_status self.now };
+        ensures { result ≡ error_status self.now };
 }
 
 impl<E> From<AllocError> for Fault<E> {
@@ -53,7 +53,7 @@ impl<E> From<Failed> for Fault<E> {
 impl<E: Refusal> Fault<E> {
     /// Returns the line that the user sees, with its line feed.
     pub fn line(&self, alloc: Global) -> Result<Vec<u8>, AllocError>
-        ensures { IfOk result (λ line. line.items ≡ fault_line E.told_line self.now) }
+        ensures { IfOk result (λ line. line.items ≡ fault_line E.error_line self.now) }
     {
         match self {
             Fault::Own(own) => own.line(alloc),
@@ -64,7 +64,7 @@ impl<E: Refusal> Fault<E> {
 
     /// Returns the status that the program ends with.
     pub fn status(&self) -> u8
-        ensures { result ≡ fault_status E.told_status self.now }
+        ensures { result ≡ fault_status E.error_status self.now }
     {
         match self {
             Fault::Own(own) => own.status(),

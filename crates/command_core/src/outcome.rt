@@ -2,7 +2,7 @@
 
 ghost use Rattle.std.specs.Prelude.{◌≡◌, None, MatchResult};
 ghost use Rattle.command_core.specs.Seen.{output_of};
-ghost use Rattle.command_core.specs.Answers.{Tells, TellsDone, TellsFault, TellsMemory};
+ghost use Rattle.command_core.specs.Answers.{Writes, WritesDone, WritesError, WritesMemory};
 
 use crate::fault::{Fault, Refusal};
 use item_model::Entries;
@@ -23,11 +23,11 @@ pub fn write_result<W: Sink, E: Refusal + Drop>(
     answer: Result<Vec<u8>, Fault<E>>,
 ) -> Outcome
     ensures { MatchResult answer
-        (λ bytes. TellsDone None bytes.items
+        (λ bytes. WritesDone None bytes.items
         (output_of W.Sink output.old)
         (output_of W.Sink output.new)
         result)
-        (λ fault. TellsFault E.told_line E.told_status fault
+        (λ fault. WritesError E.error_line E.error_status fault
         (output_of W.Sink output.old)
         (output_of W.Sink output.new)
         result) }
@@ -40,7 +40,7 @@ pub fn write_result<W: Sink, E: Refusal + Drop>(
 
 /// Writes the output of a command that succeeded.
 pub fn write_output<W: Sink>(output: &mut W, bytes: &[u8], history: Option<Entries>) -> Outcome
-    ensures { TellsDone history bytes.now
+    ensures { WritesDone history bytes.now
         (output_of W.Sink output.old)
         (output_of W.Sink output.new)
         result }
@@ -53,7 +53,7 @@ pub fn write_output<W: Sink>(output: &mut W, bytes: &[u8], history: Option<Entri
 
 /// Writes the line of an error of a command that opened no share, or that of out of memory if an allocation fails.
 pub fn write_error<W: Sink, E: Refusal>(alloc: Global, output: &mut W, fault: &Fault<E>) -> Outcome
-    ensures { TellsFault E.told_line E.told_status fault.now
+    ensures { WritesError E.error_line E.error_status fault.now
         (output_of W.Sink output.old)
         (output_of W.Sink output.new)
         result }
@@ -69,7 +69,7 @@ pub fn write_error<W: Sink, E: Refusal>(alloc: Global, output: &mut W, fault: &F
 
 /// Writes the line of out of memory. Does not allocate.
 pub fn out_of_memory<W: Sink>(output: &mut W, history: Option<Entries>) -> Outcome
-    ensures { TellsMemory history
+    ensures { WritesMemory history
         (output_of W.Sink output.old)
         (output_of W.Sink output.new)
         result }
@@ -82,7 +82,7 @@ pub fn out_of_memory<W: Sink>(output: &mut W, history: Option<Entries>) -> Outco
 
 /// Writes `bytes`. Returns `status`, or 5 if the output failed.
 fn write_bytes<W: Sink>(output: &mut W, bytes: &[u8], status: u8) -> u8
-    ensures { Tells status bytes.now
+    ensures { Writes status bytes.now
         (output_of W.Sink output.old)
         (output_of W.Sink output.new)
         result }

@@ -8,12 +8,12 @@ use Rattle.chain_meetings.proofs.RowsBehind.{followers_show_the_first}
 use Rattle.daapshare_words.specs.Relay.{AreRelayWords}
 use Rattle.daapshare_words.specs.declared.command.NetCommand.TheVariants.{Relay}
 use Rattle.command_runs.specs.Chains.{IsChain, IsReadBy, IsRelayOf, RunsShowInOrder, RunsShowTheFirst, itself, of_relay, of_serve, one_more}
-use Rattle.command_runs.specs.Left.{crew_of, left_by}
+use Rattle.command_runs.specs.Left.{crew_of, serve_outcome_of}
 use Rattle.command_runs.specs.Table.{relaying_of, serving_of}
 use Rattle.command_runs.proofs.MetRuns.{made_ranged, place_is_host}
 
 met_by : (h : List Entry) (client client' : NetSeen) → IsReadBy h client client' → chain.MeetsAShare h client client'
-met_by h client client' (of_serve w told served run is meets) = chain.served (serving_of w) told (left_by served) run.ends is meets
+met_by h client client' (of_serve w told served run is meets) = chain.served (serving_of w) told (serve_outcome_of served) run.ends is meets
 met_by h client client' (of_relay w told relayed run is meets) =
     chain.relayed (relaying_of w) told.before.around.net told.after.around.net told.output_before told.output_after (crew_of relayed) run.ends.ends is meets
 

@@ -4,10 +4,10 @@ use Rattle.command_core.proofs.Ended.{by_idle}
 use Rattle.command_core.proofs.Sensible.{IsSensible}
 use Rattle.command_core.specs.declared.fault.Fault.TheVariants.{Memory}
 use Rattle.command_core.specs.declared.outcome.Outcome.{Outcome as CoreOutcome}
-use Rattle.command_core.specs.Answers.{TellsMemory}
+use Rattle.command_core.specs.Answers.{WritesMemory}
 use Rattle.command_core.specs.Endings.{IsAnswered}
 use Rattle.command_core.specs.Meanings.{Meaning}
-use Rattle.command_core.specs.Seen.{NetSeen, Seen, Told}
+use Rattle.command_core.specs.Seen.{NetSeen, Seen, Run}
 use Rattle.link_commands.proofs.FollowFacts.{follow_idle}
 use Rattle.link_commands.proofs.PushFacts.{edit_idle}
 use Rattle.relay_command.specs.declared.terms.Relaying.{Relaying}
@@ -20,7 +20,7 @@ use Rattle.daapshare_words.specs.declared.command.Command.TheVariants.{Local, Ne
 use Rattle.daapshare_words.specs.declared.command.NetCommand.{NetCommand}
 use Rattle.daapshare_words.specs.declared.command.NetCommand.TheVariants as net
 use Rattle.command_runs.specs.declared.outcome.Outcome.{Outcome}
-use Rattle.command_runs.specs.Left.{Unlinked, core_of, left_by}
+use Rattle.command_runs.specs.Left.{HasNoLinks, core_of, serve_outcome_of}
 use Rattle.command_runs.specs.Table.{meaning_of, relaying_of, serving_of, target_of, IsRelayed, IsRun, IsRunOverNet}
 use Rattle.command_runs.specs.Usage.{usage_meaning}
 use Rattle.command_runs.proofs.Senses.{usage_sense, sense_of}
@@ -35,8 +35,8 @@ no_place relaying net = record {
   stops = inr (refl, refl);
 }
 
-module _ (told : Told) (outcome : Outcome) (same : told.after ≡ told.before) (none : outcome.links ≡ []) (t : TellsMemory None told.output_before told.output_after (core_of outcome)) where
-  idle_alone : (m : Meaning) → IsSensible m → Unlinked (IsAnswered m told) outcome
+module _ (told : Run) (outcome : Outcome) (same : told.after ≡ told.before) (none : outcome.links ≡ []) (t : WritesMemory None told.output_before told.output_after (core_of outcome)) where
+  idle_alone : (m : Meaning) → IsSensible m → HasNoLinks (IsAnswered m told) outcome
   idle_alone m sense = (none, by_idle m sense told (core_of outcome) same t)
 
   idle_relay : (relaying : Relaying) → IsRelayed relaying told outcome
@@ -48,7 +48,7 @@ module _ (told : Told) (outcome : Outcome) (same : told.after ≡ told.before) (
   }
 
   idle_net : (command : NetCommand) → IsRunOverNet command told outcome
-  idle_net (net.Serve words) = serve_idle (serving_of words) told (left_by outcome) same t.told (record { history = t.history; links = none })
+  idle_net (net.Serve words) = serve_idle (serving_of words) told (serve_outcome_of outcome) same t.told (record { history = t.history; links = none })
   idle_net (net.Edit words) = (none, edit_idle words.place words.stop told (core_of outcome) same t)
   idle_net (net.Follow words) = (none, follow_idle words.place words.rounds words.query words.meta (target_of words.list) told (core_of outcome) same t)
   idle_net (net.Relay words) = idle_relay (relaying_of words)
@@ -58,7 +58,7 @@ module _ (told : Told) (outcome : Outcome) (same : told.after ≡ told.before) (
   idle_ended (Some (Local command)) = idle_alone (meaning_of command) (sense_of command)
   idle_ended (Some (Net command)) = record { ranged = inr (record { same = same; unlinked = none; memory = t }); ends = idle_net command }
 
-pub idle_run : (asked : Option Command) (told : Told) (outcome : Outcome) (ended : CoreOutcome) → told.after ≡ told.before → core_of outcome ≡ ended → outcome.links ≡ []
-    → TellsMemory None told.output_before told.output_after ended → IsRun asked told outcome
+pub idle_run : (asked : Option Command) (told : Run) (outcome : Outcome) (ended : CoreOutcome) → told.after ≡ told.before → core_of outcome ≡ ended → outcome.links ≡ []
+    → WritesMemory None told.output_before told.output_after ended → IsRun asked told outcome
 idle_run asked told outcome ended same is none t =
-    idle_ended told outcome same none (subst (λ (e : CoreOutcome). TellsMemory None told.output_before told.output_after e) (sym is) t) asked
+    idle_ended told outcome same none (subst (λ (e : CoreOutcome). WritesMemory None told.output_before told.output_after e) (sym is) t) asked

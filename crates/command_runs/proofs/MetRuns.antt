@@ -5,7 +5,7 @@ use Rattle.std.specs.List.{list_all}
 use Rattle.std.proofs.lemmas.Bool.{and_parts, leb-true}
 use Rattle.std.proofs.lemmas.List.Elements.{All-cons, All-nil}
 use Rattle.http_client.specs.Requests.{HasListNumber, IsHost}
-use Rattle.command_core.specs.Seen.{Seen, Told}
+use Rattle.command_core.specs.Seen.{Seen, Run}
 use Rattle.share_meetings.specs.Meetings.{IsMade}
 use Rattle.share_meetings.proofs.Endings.{not_unwritten}
 use Rattle.share_meetings.proofs.Shares.{relays_serve_a_share, runs_serve_a_share}
@@ -20,7 +20,7 @@ use Rattle.relay_command.specs.Terms as relay
 use Rattle.serve_command.specs.Terms.{settings_of}
 use Rattle.command_runs.specs.declared.outcome.Outcome.{Outcome}
 use Rattle.command_runs.specs.Laws.{RunsShowTheRelay, RunsShowTheShare}
-use Rattle.command_runs.specs.Left.{crew_of, left_by}
+use Rattle.command_runs.specs.Left.{crew_of, serve_outcome_of}
 use Rattle.command_runs.specs.Table.{IsIdle, IsNetRun, relaying_of, serving_of, target_of}
 
 -- ---- what the words say
@@ -44,7 +44,7 @@ list_is_number None within = tt
 list_is_number (Some id) within = let most = within.1 in omega (arith, most)
 
 -- a run that made a connection had read them
-pub made_ranged : (command : NetCommand) (told : Told) (outcome : Outcome) (sent owed : List ℕ) → IsNetRun command told outcome
+pub made_ranged : (command : NetCommand) (told : Run) (outcome : Outcome) (sent owed : List ℕ) → IsNetRun command told outcome
     → IsMade told.before.around.net told.after.around.net sent owed → IsNetRanged command
 made_ranged command told outcome sent owed run made = by_ranged run.ranged
   where
@@ -60,7 +60,7 @@ runs_show_the_share w told served history v seen followed serves is follows meet
     let ranged : AreFollowWords v = made_ranged (Follow v) seen followed meets.sent meets.owed follows meets.made in
     follow_shows_any_share (settings_of (serving_of w)) history meets.served.report meets.input meets.output v.place v.rounds v.query v.meta (target_of v.list) seen followed.status
     meets.sent meets.owed meets.lost meets.dropped
-    (runs_serve_a_share (serving_of w) told (left_by served) history meets.input meets.output serves.ends is meets.served)
+    (runs_serve_a_share (serving_of w) told (serve_outcome_of served) history meets.input meets.output serves.ends is meets.served)
     follows.ends.1.ends meets.made meets.reached meets.answered ranged.rounds.0 (place_is_host v.place ranged.place) (list_is_number v.list ranged.list) ranged.query
 
 pub runs_show_the_relay : RunsShowTheRelay

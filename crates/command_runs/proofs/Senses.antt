@@ -13,7 +13,7 @@ use Rattle.daapshare_words.specs.declared.command.LocalCommand.{LocalCommand}
 use Rattle.daapshare_words.specs.declared.command.LocalCommand.TheVariants as local
 use Rattle.command_runs.specs.declared.usage.UsageFault.{UsageFault}
 use Rattle.command_runs.specs.Usage.{usage_meaning}
-use Rattle.command_runs.specs.Table.{shows, jsons, tells_codes, target_of, meaning_of}
+use Rattle.command_runs.specs.Table.{show_meaning_of, json_meaning_of, codes_meaning_of, target_of, meaning_of}
 
 -- arguments that are not a command's leave the input unchanged
 untouched : (before after : Seen) (fault : Fault UsageFault) → IsCause usage_meaning before after fault → IsUnread before.input after.input
@@ -41,15 +41,15 @@ usage_sense = record {
   always = λ told outcome. tt;
 }
 
-show_senses : (back : Bool) → IsSensible (shows back)
+show_senses : (back : Bool) → IsSensible (show_meaning_of back)
 show_senses true = show_back_sense.sensible
 show_senses false = show_sense
 
-json_senses : (back : Bool) → IsSensible (jsons back)
+json_senses : (back : Bool) → IsSensible (json_meaning_of back)
 json_senses true = json_back_sense.sensible
 json_senses false = json_sense.sensible
 
-codes_senses : (learn : Bool) → IsSensible (tells_codes learn)
+codes_senses : (learn : Bool) → IsSensible (codes_meaning_of learn)
 codes_senses true = learn_sense.sensible
 codes_senses false = codes_sense.sensible
 

@@ -3,7 +3,7 @@
 use Rattle.std.specs.Prelude.{◌≡◌, List, false, Some}
 use Rattle.item_model.specs.declared.changes.Entry.{Entry}
 use Rattle.share_replies.specs.Settings.{Settings}
-use Rattle.command_core.specs.Seen.{Told}
+use Rattle.command_core.specs.Seen.{Run}
 use Rattle.edit_meetings.specs.Kept.{Acknowledges, IsAllOrNothing, TellsOf}
 use Rattle.link_commands.specs.Decided.{IsOrMemory}
 use Rattle.link_commands.specs.Promises.{IsFaultless}
@@ -25,7 +25,7 @@ use Rattle.command_runs.specs.Table.{IsRun, target_of}
 -- or their lines and then that of an error, perhaps cut. With status 0 it is all of it, for exactly ROUNDS revisions.
 abbrev pub RunsShowTheShare : Type 0
 RunsShowTheShare =
-    (w : ServeWords) (told : Told) (served : Outcome) (history : List Entry) (v : FollowWords) (seen : Told) (followed : Outcome)
+    (w : ServeWords) (told : Run) (served : Outcome) (history : List Entry) (v : FollowWords) (seen : Run) (followed : Outcome)
     → IsRun (Some (Net (Serve w))) told served → served.history ≡ Some history → IsRun (Some (Net (Follow v))) seen followed
     → (meets : Meets told.before.around.net told.after.around.net served.links seen.before.around.net seen.after.around.net)
     → ShowsAsked w.keep meets.served.report history v.rounds (target_of v.list) v.query v.meta seen.output_before seen.output_after followed.status
@@ -33,7 +33,7 @@ RunsShowTheShare =
 -- The same of a run of `relay` and a run of `follow`, by the history of the relay's own share.
 abbrev pub RunsShowTheRelay : Type 0
 RunsShowTheRelay =
-    (w : RelayWords) (told : Told) (relayed : Outcome) (history : List Entry) (v : FollowWords) (seen : Told) (followed : Outcome)
+    (w : RelayWords) (told : Run) (relayed : Outcome) (history : List Entry) (v : FollowWords) (seen : Run) (followed : Outcome)
     → IsRun (Some (Net (Relay w))) told relayed → relayed.history ≡ Some history → IsRun (Some (Net (Follow v))) seen followed
     → (meets : Meets told.before.around.net told.after.around.net relayed.links seen.before.around.net seen.after.around.net)
     → ShowsAsked w.keep meets.served.report history v.rounds (target_of v.list) v.query v.meta seen.output_before seen.output_after followed.status
@@ -42,7 +42,7 @@ RunsShowTheRelay =
 -- that the share left has the batch of its input, at the revision that it wrote; or the input has no edits.
 abbrev pub RunsKeepEdits : Type 0
 RunsKeepEdits =
-    (w : ServeWords) (told : Told) (served : Outcome) (history : List Entry) (v : EditWords) (seen : Told) (edited : Outcome)
+    (w : ServeWords) (told : Run) (served : Outcome) (history : List Entry) (v : EditWords) (seen : Run) (edited : Outcome)
     → IsRun (Some (Net (Serve w))) told served → served.history ≡ Some history
     → IsRun (Some (Net (Edit v))) seen edited → v.stop ≡ false → edited.status ≡ 0
     → (meets : Meets told.before.around.net told.after.around.net served.links seen.before.around.net seen.after.around.net)
@@ -52,7 +52,7 @@ RunsKeepEdits =
 -- added all of the input's edits, in one batch, or none.
 abbrev pub RunsTellOfEdits : Type 0
 RunsTellOfEdits =
-    (w : ServeWords) (told : Told) (served : Outcome) (history : List Entry) (v : EditWords) (seen : Told) (edited : Outcome)
+    (w : ServeWords) (told : Run) (served : Outcome) (history : List Entry) (v : EditWords) (seen : Run) (edited : Outcome)
     → IsRun (Some (Net (Serve w))) told served → served.history ≡ Some history → IsRun (Some (Net (Edit v))) seen edited
     → (meets : Meets told.before.around.net told.after.around.net served.links seen.before.around.net seen.after.around.net)
     → TellsOf v.stop meets.served.report history seen edited.status × IsAllOrNothing v.stop meets.served.report history seen
@@ -61,11 +61,11 @@ RunsTellOfEdits =
 -- `follow` succeeds, unless an error outside was counted or an allocation failed.
 abbrev pub RunsOfFollowGoOn : Type 0
 RunsOfFollowGoOn =
-    (v : FollowWords) (told : Told) (outcome : Outcome) (s : Settings) (h : List Entry)
+    (v : FollowWords) (told : Run) (outcome : Outcome) (s : Settings) (h : List Entry)
     → IsRun (Some (Net (Follow v))) told outcome → ServesMirror s h v.rounds v.query v.meta (target_of v.list) told → IsFaultless told → IsOrMemory 0 outcome.status
 
 -- So does a run of `edit`, if these bytes are one success of a share and its input is within its limit.
 abbrev pub RunsOfEditGoOn : Type 0
 RunsOfEditGoOn =
-    (v : EditWords) (told : Told) (outcome : Outcome) (s : Settings) (h : List Entry)
+    (v : EditWords) (told : Run) (outcome : Outcome) (s : Settings) (h : List Entry)
     → IsRun (Some (Net (Edit v))) told outcome → ServesPush s h v.stop told → IsFaultless told → IsOrMemory 0 outcome.status

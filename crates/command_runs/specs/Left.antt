@@ -1,7 +1,7 @@
 -- What a run of the program leaves.
 use Rattle.std.specs.Prelude.{◌≡◌, []}
 use Rattle.command_core.specs.declared.outcome.Outcome.{Outcome as CoreOutcome}
-use Rattle.serve_command.specs.Runs.{Left}
+use Rattle.serve_command.specs.Runs.{ServeOutcome}
 use Rattle.share_crew.specs.declared.outcome.Outcome.{Outcome as CrewOutcome}
 use Rattle.command_runs.specs.declared.outcome.Outcome.{Outcome}
 
@@ -10,13 +10,13 @@ abbrev pub core_of : Outcome → CoreOutcome
 core_of outcome = record { status = outcome.status; history = outcome.history }
 
 -- what `serve` leaves
-abbrev pub left_by : Outcome → Left
-left_by outcome = record { status = outcome.status; history = outcome.history; links = outcome.links }
+abbrev pub serve_outcome_of : Outcome → ServeOutcome
+serve_outcome_of outcome = record { status = outcome.status; history = outcome.history; links = outcome.links }
 
 -- what the workers of a share leave
 abbrev pub crew_of : Outcome → CrewOutcome
 crew_of outcome = record { status = outcome.status; history = outcome.history; links = outcome.links }
 
 -- no connection was served, and `ends` holds of the rest
-abbrev pub Unlinked : (CoreOutcome → Type 0) → Outcome → Type 0
-Unlinked ends outcome = (outcome.links ≡ []) × ends (core_of outcome)
+abbrev pub HasNoLinks : (CoreOutcome → Type 0) → Outcome → Type 0
+HasNoLinks ends outcome = (outcome.links ≡ []) × ends (core_of outcome)

@@ -1,13 +1,13 @@
 //! A run of the program over any input, output, files and network.
 
 ghost use Rattle.std.specs.Prelude.{◌≡◌, true};
-ghost use Rattle.command_core.specs.Seen.{files_of, input_of, net_of, output_of, seen, told_in};
+ghost use Rattle.command_core.specs.Seen.{files_of, input_of, net_of, output_of, seen_of, run_of};
 ghost use Rattle.daapshare_words.specs.Grammar.{texts_of};
 ghost use Rattle.daapshare_words.specs.Words.{command_of};
 ghost use Rattle.command_runs.specs.Table.{leaves_files, leaves_net, IsRun};
 
 use crate::local::run_local;
-use crate::outcome::{Outcome, unlinked};
+use crate::outcome::{Outcome, without_links};
 use crate::over_net::run_net;
 use crate::usage::UsageFault;
 use command_core::{Fault, out_of_memory, write_error};
@@ -44,11 +44,11 @@ pub fn run<R: Threads + Wait + Clock + Sync, I: Source, W: Sink, F: Files, N: Ne
     net: &mut N,
 ) -> Outcome
     ensures answered { IsRun (command_of (texts_of words.now))
-        (told_in
-        (seen (input_of I.Source input.old)
+        (run_of
+        (seen_of (input_of I.Source input.old)
         (files_of F.Files files.old)
         (net_of N.Net net.old))
-        (seen (input_of I.Source input.new)
+        (seen_of (input_of I.Source input.new)
         (files_of F.Files files.new)
         (net_of N.Net net.new))
         (output_of W.Sink output.old)
@@ -63,14 +63,14 @@ pub fn run<R: Threads + Wait + Clock + Sync, I: Source, W: Sink, F: Files, N: Ne
     ensures open_stays { N.open_count net.new ≡ N.open_count net.old }
 {
     match read_words(alloc, words) {
-        Ok(Command::Local(command)) => unlinked(alloc, run_local(alloc, &command, input, output)),
+        Ok(Command::Local(command)) => without_links(alloc, run_local(alloc, &command, input, output)),
         Ok(Command::Net(command)) => { run_net(rt, alloc, command, input, output, files, net) }
         Err(WordsError::Usage) => {
-            unlinked(
+            without_links(
                 alloc,
                 write_error(alloc, output, &Fault::Own(UsageFault::NoCommand)),
             )
         }
-        Err(WordsError::Memory) => unlinked(alloc, out_of_memory(output, None)),
+        Err(WordsError::Memory) => without_links(alloc, out_of_memory(output, None)),
     }
 }

@@ -1,7 +1,7 @@
 //! Runs the commands over standard input and output: one function for all, and one for each.
 
 ghost use Rattle.std.specs.Prelude.{◌≡◌};
-ghost use Rattle.command_core.specs.Seen.{Around, input_of, output_of, told_beside};
+ghost use Rattle.command_core.specs.Seen.{Around, input_of, output_of, run_over_streams};
 ghost use Rattle.command_core.specs.Endings.{IsAnswered};
 ghost use Rattle.share_commands.specs.ListShare.{list_meaning};
 ghost use Rattle.share_commands.specs.ReplayShare.{replay_meaning};
@@ -9,7 +9,7 @@ ghost use Rattle.share_commands.specs.RehearseShare.{rehearse_meaning};
 ghost use Rattle.daapshare_words.specs.Rehearse.{AreRehearseWords};
 ghost use Rattle.daapshare_words.specs.Replay.{AreReplayWords};
 ghost use Rattle.daapshare_words.specs.Words.{IsLocalRanged};
-ghost use Rattle.command_runs.specs.Table.{jsons, meaning_of, shows, target_of, tells_codes};
+ghost use Rattle.command_runs.specs.Table.{json_meaning_of, meaning_of, show_meaning_of, target_of, codes_meaning_of};
 
 use command_core::Outcome;
 use daapshare_words::{ListWords, LocalCommand, RehearseWords, ReplayWords};
@@ -29,7 +29,7 @@ pub fn run_local<I: Source, W: Sink>(
 ) -> Outcome
     requires { IsLocalRanged command.now }
     ensures { (around : Around) → IsAnswered (meaning_of command.now)
-        (told_beside around
+        (run_over_streams around
         (input_of I.Source input.old)
         (input_of I.Source input.new)
         (output_of W.Sink output.old)
@@ -56,7 +56,7 @@ fn run_list<I: Source, W: Sink>(
 ) -> Outcome
     ensures { (around : Around) → IsAnswered
         (list_meaning words.now.query words.now.meta (target_of words.now.list))
-        (told_beside around
+        (run_over_streams around
         (input_of I.Source input.old)
         (input_of I.Source input.new)
         (output_of W.Sink output.old)
@@ -75,8 +75,8 @@ fn run_list<I: Source, W: Sink>(
 
 /// Runs `show`, or `show --back`.
 fn run_show<I: Source, W: Sink>(alloc: Global, back: bool, input: &mut I, output: &mut W) -> Outcome
-    ensures { (around : Around) → IsAnswered (shows back)
-        (told_beside around
+    ensures { (around : Around) → IsAnswered (show_meaning_of back)
+        (run_over_streams around
         (input_of I.Source input.old)
         (input_of I.Source input.new)
         (output_of W.Sink output.old)
@@ -96,8 +96,8 @@ fn run_codes<I: Source, W: Sink>(
     input: &mut I,
     output: &mut W,
 ) -> Outcome
-    ensures { (around : Around) → IsAnswered (tells_codes learn)
-        (told_beside around
+    ensures { (around : Around) → IsAnswered (codes_meaning_of learn)
+        (run_over_streams around
         (input_of I.Source input.old)
         (input_of I.Source input.new)
         (output_of W.Sink output.old)
@@ -119,7 +119,7 @@ fn run_replay<I: Source, W: Sink>(
 ) -> Outcome
     requires { AreReplayWords words.now }
     ensures { (around : Around) → IsAnswered (replay_meaning words.now.keep words.now.name)
-        (told_beside around
+        (run_over_streams around
         (input_of I.Source input.old)
         (input_of I.Source input.new)
         (output_of W.Sink output.old)
@@ -139,7 +139,7 @@ fn run_rehearse<I: Source, W: Sink>(
     requires { AreRehearseWords words.now }
     ensures { (around : Around) → IsAnswered
         (rehearse_meaning words.now.number words.now.batches words.now.size words.now.keep)
-        (told_beside around
+        (run_over_streams around
         (input_of I.Source input.old)
         (input_of I.Source input.new)
         (output_of W.Sink output.old)
@@ -158,8 +158,8 @@ fn run_rehearse<I: Source, W: Sink>(
 
 /// Runs `json`, or `json --back`.
 fn run_json<I: Source, W: Sink>(alloc: Global, back: bool, input: &mut I, output: &mut W) -> Outcome
-    ensures { (around : Around) → IsAnswered (jsons back)
-        (told_beside around
+    ensures { (around : Around) → IsAnswered (json_meaning_of back)
+        (run_over_streams around
         (input_of I.Source input.old)
         (input_of I.Source input.new)
         (output_of W.Sink output.old)

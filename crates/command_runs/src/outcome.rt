@@ -1,8 +1,8 @@
 //! What a run of the program leaves.
 
 ghost use Rattle.std.specs.Prelude.{◌≡◌, []};
-ghost use Rattle.serve_command.specs.Outcomes.{left_of};
-ghost use Rattle.command_runs.specs.Left.{core_of, crew_of, left_by};
+ghost use Rattle.serve_command.specs.Outcomes.{outcome_of};
+ghost use Rattle.command_runs.specs.Left.{core_of, crew_of, serve_outcome_of};
 
 use item_model::Entries;
 use serve_command::LinkReports;
@@ -18,7 +18,7 @@ pub struct Outcome {
 }
 
 /// Returns the outcome of a command that served no connection.
-pub fn unlinked(alloc: Global, ended: command_core::Outcome) -> Outcome
+pub fn without_links(alloc: Global, ended: command_core::Outcome) -> Outcome
     ensures ended { core_of result ≡ ended }
     ensures unlinked { result.links ≡ [] }
 {
@@ -30,8 +30,8 @@ pub fn unlinked(alloc: Global, ended: command_core::Outcome) -> Outcome
 }
 
 /// Returns the outcome of a share that was served or relayed.
-pub fn linked(ended: serve_command::Outcome) -> Outcome
-    ensures served { left_by result ≡ left_of ended }
+pub fn with_links(ended: serve_command::Outcome) -> Outcome
+    ensures served { serve_outcome_of result ≡ outcome_of ended }
     ensures crew { crew_of result ≡ ended }
 {
     Outcome {

@@ -2,7 +2,7 @@
 
 ghost use Rattle.std.specs.Prelude.{◌≡◌, Some, true};
 ghost use Rattle.daapshare_words.specs.declared.command.Command.TheVariants.{Net as OverNet};
-ghost use Rattle.command_core.specs.Seen.{files_of, input_of, net_of, output_of, seen, told_in};
+ghost use Rattle.command_core.specs.Seen.{files_of, input_of, net_of, output_of, seen_of, run_of};
 ghost use Rattle.daapshare_words.specs.Relay.{AreRelayWords};
 ghost use Rattle.daapshare_words.specs.Serve.{AreServeWords};
 ghost use Rattle.daapshare_words.specs.Words.{IsNetRanged};
@@ -11,7 +11,7 @@ ghost use Rattle.serve_command.specs.Terms.{MayServe};
 ghost use Rattle.command_runs.specs.Table.{leaves_files, relaying_of, serving_of, IsRunOverNet};
 
 use crate::local::target_of;
-use crate::outcome::{Outcome, linked, unlinked};
+use crate::outcome::{Outcome, with_links, without_links};
 use daapshare_words::{NetCommand, RelayWords, ServeWords};
 use link_commands::{edit_share, follow_share};
 use outside_net::{Files, Net, Sink, Source};
@@ -34,11 +34,11 @@ pub fn run_net<R: Threads + Wait + Clock + Sync, I: Source, W: Sink, F: Files, N
 ) -> Outcome
     requires { IsNetRanged command }
     ensures answered { IsRunOverNet command
-        (told_in
-        (seen (input_of I.Source input.old)
+        (run_of
+        (seen_of (input_of I.Source input.old)
         (files_of F.Files files.old)
         (net_of N.Net net.old))
-        (seen (input_of I.Source input.new)
+        (seen_of (input_of I.Source input.new)
         (files_of F.Files files.new)
         (net_of N.Net net.new))
         (output_of W.Sink output.old)
@@ -49,11 +49,11 @@ pub fn run_net<R: Threads + Wait + Clock + Sync, I: Source, W: Sink, F: Files, N
 {
     match command {
         NetCommand::Serve(words) => {
-            linked(serve(rt, alloc, &serving_of(words), input, output, files, net))
+            with_links(serve(rt, alloc, &serving_of(words), input, output, files, net))
         }
         NetCommand::Edit(words) => {
             let ended = edit_share(alloc, words.place.as_str(), words.stop, input, output, net);
-            unlinked(alloc, ended)
+            without_links(alloc, ended)
         }
         NetCommand::Follow(words) => {
             let ended = follow_share(
@@ -66,9 +66,9 @@ pub fn run_net<R: Threads + Wait + Clock + Sync, I: Source, W: Sink, F: Files, N
                 output,
                 net,
             );
-            unlinked(alloc, ended)
+            without_links(alloc, ended)
         }
-        NetCommand::Relay(words) => linked(relay(rt, alloc, &relaying_of(words), output, net)),
+        NetCommand::Relay(words) => with_links(relay(rt, alloc, &relaying_of(words), output, net)),
     }
 }
 

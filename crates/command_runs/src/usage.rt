@@ -15,9 +15,9 @@ pub enum UsageFault {
 }
 
 impl Refusal for UsageFault {
-    ghost told_line = { usage_line };
+    ghost error_line = { usage_line };
 
-    ghost told_status = { usage_status };
+    ghost error_status = { usage_status };
 
     fn line(&self, alloc: Global) -> Result<Vec<u8>, AllocError> {
         usage_text(alloc)

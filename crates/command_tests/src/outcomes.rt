@@ -12,9 +12,9 @@ struct Torn;
 impl Refusal for Torn {
     ghost use Rattle.std.specs.Prelude.{codes, ◌++◌, ◌∷◌, []};
 
-    ghost told_line = { λ _. codes "torn" ++ 10 ∷ [] };
+    ghost error_line = { λ _. codes "torn" ++ 10 ∷ [] };
 
-    ghost told_status = { λ _. 3 };
+    ghost error_status = { λ _. 3 };
 
     fn line(&self, alloc: Global) -> Result<Vec<u8>, AllocError> {
         Vec::from_slice(alloc, b"torn\n")

@@ -35,7 +35,7 @@ use Rattle.link_commands.specs.declared.edit.EditFault.{EditFault}
 use Rattle.link_commands.specs.declared.edit.EditFault.TheVariants as edit_fault
 use Rattle.link_commands.specs.EditShare.{HasBody, HasPushed, IsEditDone, IsUnsent, StopsEdit, StopsSending, edit_meaning}
 use Rattle.link_commands.specs.Linked.{LinkSeen, start_of}
-use Rattle.link_commands.specs.Meanings.{Happens}
+use Rattle.link_commands.specs.Meanings.{EndsAs}
 use Rattle.link_commands.proofs.LinkedFacts.{written_part}
 use Rattle.share_meetings.specs.Meetings.{IsMade}
 use Rattle.share_meetings.specs.Shares.{IsOfShare}
@@ -246,7 +246,7 @@ edits_are_all_or_nothing s h report input output host stop seen status sent owed
         → IsAllOrNothing stop report h seen
     by_sent link body result known has x = by_body stop body lost has (whole_reached host body link result sent owed input lost known x reached)
 
-    by_ending : (ending : Ending EditFault) → Happens (edit_meaning host stop) seen ending → IsAllOrNothing stop report h seen
+    by_ending : (ending : Ending EditFault) → EndsAs (edit_meaning host stop) seen ending → IsAllOrNothing stop report h seen
     by_ending (Done text) happens =
         let done = happens.0 in
         by_sent done.link done.sent.0 done.made (link_of host seen.before.around.net seen.after.around.net done.link sent owed done.linked was_made) done.sent.1 done.sent.2

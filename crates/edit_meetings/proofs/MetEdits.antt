@@ -33,16 +33,16 @@ use Rattle.command_core.specs.declared.fault.Fault.TheVariants.{Memory, Own, Rea
 use Rattle.command_core.specs.Endings.{Done, Ending, IsCut, IsWritten, LineCut, OutputCut, Refused}
 use Rattle.command_core.proofs.Appending.{cut_more}
 use Rattle.command_core.specs.Faults.{fault_line, fault_status}
-use Rattle.command_core.specs.Seen.{Told}
+use Rattle.command_core.specs.Seen.{Run}
 use Rattle.mirror_client.specs.declared.pushing.Pushed.{Pushed}
 use Rattle.mirror_client.specs.declared.pushing.Pushed.TheVariants as pushed
 use Rattle.mirror_client.specs.Pushes.{push_text}
 use Rattle.share_meetings.proofs.Answering.{ReadsAs}
 use Rattle.link_commands.specs.declared.edit.EditFault.{EditFault}
 use Rattle.link_commands.specs.declared.edit.EditFault.TheVariants as edit_fault
-use Rattle.link_commands.specs.EditShare.{HasBody, HasPushed, IsEditDone, StopsEdit, edit_line, edit_meaning, edit_status, told_of}
+use Rattle.link_commands.specs.EditShare.{HasBody, HasPushed, IsEditDone, StopsEdit, edit_line, edit_meaning, edit_status, push_line}
 use Rattle.link_commands.specs.Linked.{LinkSeen}
-use Rattle.link_commands.specs.Meanings.{Happens, IsCutBehind, ending_status}
+use Rattle.link_commands.specs.Meanings.{EndsAs, IsCutBehind, ending_status}
 use Rattle.link_commands.proofs.PushFacts.{link_fails}
 use Rattle.share_meetings.specs.Shares.{IsOfShare}
 use Rattle.edit_meetings.specs.EditMeetings.{EditMeetsTheShare, EditTellsOfTheShare}
@@ -239,7 +239,7 @@ module _ (s : Settings) (h : List Entry) (report : LinkReport) (input output : L
 
 -- ---- the run
 
-line_is : (result : Pushed) (text : List ℕ) → told_of result ≡ Ok text → (text ≡ line_of result) × (status_of result ≡ 0)
+line_is : (result : Pushed) (text : List ℕ) → push_line result ≡ Ok text → (text ≡ line_of result) × (status_of result ≡ 0)
 line_is (pushed.Revision n) text told = (sym (ok_line (line_of (pushed.Revision n)) text told), refl)
   where
     ok_line : (a b : List ℕ) → ◌≡◌ {A = Result (List ℕ) EditFault} (Ok a) (Ok b) → a ≡ b
@@ -310,7 +310,7 @@ edit_tells_of_the_share s h report input output host stop seen status sent owed 
     by_cut front Read is stops none written = failed_cut Read tt (cut_behind front _ none written) is
     by_cut front Memory is stops none written = failed_cut Memory tt (cut_behind front _ none written) is
 
-    by_ending : (ending : Ending EditFault) → status ≡ ending_status (edit_meaning host stop) ending → Happens (edit_meaning host stop) seen ending → TellsOf stop report h seen status
+    by_ending : (ending : Ending EditFault) → status ≡ ending_status (edit_meaning host stop) ending → EndsAs (edit_meaning host stop) seen ending → TellsOf stop report h seen status
     by_ending (Done text) is happens =
         let line = line_is happens.0.made text happens.0.told in
         made happens.0.made (by_done text happens.0) (subst (λ (t : List ℕ). IsWritten seen.output_before seen.output_after t) line.0 happens.1) (is ∙ sym line.1)
@@ -332,7 +332,7 @@ edit_fails (Own (edit_fault.Link e)) h = link_fails e h
 edit_fails Read h = absurd (cc)
 edit_fails Memory h = absurd (cc)
 
-acknowledged : (report : LinkReport) (h : List Entry) (seen : Told) (result : Pushed) → IsTrue false report h seen result
+acknowledged : (report : LinkReport) (h : List Entry) (seen : Run) (result : Pushed) → IsTrue false report h seen result
     → IsWritten seen.output_before seen.output_after (line_of result) → status_of result ≡ 0 → Acknowledges report h seen
 acknowledged report h seen (pushed.Revision n) is written zero = kept n is.0 is.1 is.2 written
 acknowledged report h seen pushed.Unchanged is written zero = unchanged is.0 is.1 is.2.0 is.2.1 written

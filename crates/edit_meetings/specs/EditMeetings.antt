@@ -6,7 +6,7 @@ use Rattle.http_client.specs.Requests.{IsHost}
 use Rattle.share_history.specs.Histories.{batches, revision, up_to}
 use Rattle.share_replies.specs.Settings.{Settings}
 use Rattle.share_server.specs.declared.report.LinkReport.{LinkReport}
-use Rattle.command_core.specs.Seen.{Told}
+use Rattle.command_core.specs.Seen.{Run}
 use Rattle.link_commands.specs.EditShare.{edit_meaning}
 use Rattle.link_commands.specs.Meanings.{LinkEnds}
 use Rattle.share_meetings.specs.Meetings.{IsMade}
@@ -17,7 +17,7 @@ use Rattle.edit_meetings.specs.Kept.{Acknowledges, IsAllOrNothing, IsKeptAt, Tel
 -- revision that it wrote, or the input has no edits.
 abbrev pub EditMeetsTheShare : Type 0
 EditMeetsTheShare =
-    (s : Settings) (h : List Entry) (report : LinkReport) (input output : List ℕ) (host : List ℕ) (seen : Told) (status : ℕ) (sent owed lost dropped : List ℕ)
+    (s : Settings) (h : List Entry) (report : LinkReport) (input output : List ℕ) (host : List ℕ) (seen : Run) (status : ℕ) (sent owed lost dropped : List ℕ)
     → IsOfShare s h report input output → LinkEnds (edit_meaning host false) seen status → status ≡ 0
     → IsMade seen.before.around.net seen.after.around.net sent owed → sent ≡ input ++ lost → output ≡ owed ++ dropped
     → IsHost host → Acknowledges report h seen
@@ -25,7 +25,7 @@ EditMeetsTheShare =
 -- However a run of `edit` over a connection of a share ends: what it wrote of the share is true.
 abbrev pub EditTellsOfTheShare : Type 0
 EditTellsOfTheShare =
-    (s : Settings) (h : List Entry) (report : LinkReport) (input output : List ℕ) (host : List ℕ) (stop : Bool) (seen : Told) (status : ℕ) (sent owed lost dropped : List ℕ)
+    (s : Settings) (h : List Entry) (report : LinkReport) (input output : List ℕ) (host : List ℕ) (stop : Bool) (seen : Run) (status : ℕ) (sent owed lost dropped : List ℕ)
     → IsOfShare s h report input output → LinkEnds (edit_meaning host stop) seen status
     → IsMade seen.before.around.net seen.after.around.net sent owed → sent ≡ input ++ lost → output ≡ owed ++ dropped
     → IsHost host → TellsOf stop report h seen status
@@ -34,7 +34,7 @@ EditTellsOfTheShare =
 -- input's edits, in one batch, or none.
 abbrev pub EditsAreAllOrNothing : Type 0
 EditsAreAllOrNothing =
-    (s : Settings) (h : List Entry) (report : LinkReport) (input output : List ℕ) (host : List ℕ) (stop : Bool) (seen : Told) (status : ℕ) (sent owed lost : List ℕ)
+    (s : Settings) (h : List Entry) (report : LinkReport) (input output : List ℕ) (host : List ℕ) (stop : Bool) (seen : Run) (status : ℕ) (sent owed lost : List ℕ)
     → IsOfShare s h report input output → LinkEnds (edit_meaning host stop) seen status
     → IsMade seen.before.around.net seen.after.around.net sent owed → sent ≡ input ++ lost
     → IsHost host → IsAllOrNothing stop report h seen

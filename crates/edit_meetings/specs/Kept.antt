@@ -18,7 +18,7 @@ use Rattle.command_core.specs.declared.fault.Fault.{Fault}
 use Rattle.command_core.specs.declared.fault.Fault.TheVariants.{Own}
 use Rattle.command_core.specs.Endings.{IsCut, IsWritten}
 use Rattle.command_core.specs.Faults.{fault_line, fault_status}
-use Rattle.command_core.specs.Seen.{IsUnread, Told}
+use Rattle.command_core.specs.Seen.{IsUnread, Run}
 use Rattle.mirror_client.specs.declared.pushing.Pushed.{Pushed}
 use Rattle.mirror_client.specs.declared.pushing.Pushed.TheVariants as pushed
 use Rattle.link_commands.specs.declared.edit.EditFault.{EditFault}
@@ -78,7 +78,7 @@ IsTrueOfStop report h pushed.Stopped = IsStoppedBy report h
 IsTrueOfStop report h (pushed.Refused status text) = AddedNothing report × (status ≡ 503 → is_stopped h ≡ true)
 
 -- `edit` read its whole input, or for a stop none of it, and this is true of what it pushed.
-abbrev pub IsTrue : (stop : Bool) → LinkReport → List Entry → Told → Pushed → Type 0
+abbrev pub IsTrue : (stop : Bool) → LinkReport → List Entry → Run → Pushed → Type 0
 IsTrue true report h seen made = IsUnread seen.before.input seen.after.input × IsTrueOfStop report h made
 IsTrue false report h seen made = (bytes : List ℕ) × HasReadAll seen.before.input seen.after.input bytes × IsTrueOfEdit report h bytes made
 
@@ -102,7 +102,7 @@ IsOther other = ⊤
 
 -- What `edit` wrote is the line of what the share made of it, which is true, or that of another error; or a prefix of
 -- the line, if its output failed.
-pub data TellsOf (stop : Bool) (report : LinkReport) (h : List Entry) (seen : Told) (status : ℕ) : Type 0 where
+pub data TellsOf (stop : Bool) (report : LinkReport) (h : List Entry) (seen : Run) (status : ℕ) : Type 0 where
   made : (made : Pushed) → IsTrue stop report h seen made → IsWritten seen.output_before seen.output_after (line_of made)
       → status ≡ status_of made → TellsOf stop report h seen status
   made_cut : (made : Pushed) → IsTrue stop report h seen made → IsCut seen.output_before seen.output_after (line_of made)
@@ -113,14 +113,14 @@ pub data TellsOf (stop : Bool) (report : LinkReport) (h : List Entry) (seen : To
       → status ≡ 5 → TellsOf stop report h seen status
 
 -- The answers on the connection added all of what was pushed, once, or nothing.
-abbrev pub IsAllOrNothing : (stop : Bool) → LinkReport → List Entry → Told → Type 0
+abbrev pub IsAllOrNothing : (stop : Bool) → LinkReport → List Entry → Run → Type 0
 IsAllOrNothing true report h seen = AddedNothing report ⊎ IsStoppedBy report h
 IsAllOrNothing false report h seen =
     AddedNothing report ⊎ ((bytes : List ℕ) × (n : ℕ) × HasReadAll seen.before.input seen.after.input bytes × IsKeptAt report h bytes n)
 
 -- `edit` read its whole input and wrote what the share made of it: the revision that the batch made, or that the input
 -- has no edits.
-pub data Acknowledges (report : LinkReport) (h : List Entry) (seen : Told) : Type 0 where
+pub data Acknowledges (report : LinkReport) (h : List Entry) (seen : Run) : Type 0 where
   kept : (n : ℕ) (bytes : List ℕ) → HasReadAll seen.before.input seen.after.input bytes → IsKeptAt report h bytes n
       → IsWritten seen.output_before seen.output_after (number_line (codes "revision ") n) → Acknowledges report h seen
   unchanged : (bytes : List ℕ) → HasReadAll seen.before.input seen.after.input bytes → BatchReads (table_of bytes) (Ok []) → AddedNothing report

@@ -16,7 +16,7 @@ pub record IsFed (fed : List ℕ) (reader : Reader) : Type 0 where
   pub limit : reader.limit ≡ json_limit
 
 -- it was fed all of the bytes except those that are left, and no event is ready
-pub record Feeds (all left : List ℕ) (reader : Reader) : Type 0 where
+pub record HasFedAllBut (all left : List ℕ) (reader : Reader) : Type 0 where
   pub front : List ℕ
   pub split : all ≡ front ++ left
   pub fed : IsFed front reader

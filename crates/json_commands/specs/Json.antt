@@ -43,12 +43,12 @@ pub record GivesJson (bytes output : List ℕ) : Type 0 where
   pub lines : output ≡ json_lines tags
 
 -- the tags of the bytes; a top-level tag may be as long as the input
-abbrev pub walked : List ℕ → Walk
-walked bytes = walk_of standard_rows json_limit bytes
+abbrev pub walk_of_bytes : List ℕ → Walk
+walk_of_bytes bytes = walk_of standard_rows json_limit bytes
 
 -- the error of the first malformed tag, or that the bytes end inside a top-level tag
 abbrev pub HasTagsFault : StreamError → List ℕ → Type 0
-HasTagsFault error bytes = ((walked bytes).ending ≡ broken error) ⊎ (((walked bytes).ending ≡ inside) × (error ≡ stream.Truncated (length bytes)))
+HasTagsFault error bytes = ((walk_of_bytes bytes).ending ≡ broken error) ⊎ (((walk_of_bytes bytes).ending ≡ inside) × (error ≡ stream.Truncated (length bytes)))
 
 pub record IsBroken (error : StreamError) (input : List ℕ) : Type 0 where
   pub within : IsWithin input

@@ -3,11 +3,11 @@
 ghost use Rattle.std.specs.Prelude.{◌≡◌, ◌≢◌, ◌++◌, [], ℕ, List, IfOk, IfErr, IfSome, MatchResult, OnOk, length, ◌+◌, ◌<◌, ◌^◌};
 ghost use Rattle.code_table.specs.Standard.{standard_rows};
 ghost use Rattle.dmap_stream.specs.Reader.{ready, taken};
-ghost use Rattle.command_core.specs.Seen.{Around, input_of, output_of, told_beside, no_share};
+ghost use Rattle.command_core.specs.Seen.{Around, input_of, output_of, run_over_streams, no_share};
 ghost use Rattle.command_core.specs.Endings.{IsAnswered};
 ghost use Rattle.json_commands.specs.Whole.{IsWithin, IsGiven};
 ghost use Rattle.json_commands.specs.Json.{GivesJson, HasTagsFault, IsTagsFault, StopsJson, TakesTag, json_line, json_meaning};
-ghost use Rattle.json_commands.specs.Fed.{Feeds, HasFed};
+ghost use Rattle.json_commands.specs.Fed.{HasFedAllBut, HasFed};
 
 use crate::whole::{INPUT_LIMIT, TAG_LIMITS};
 use code_table::CodeTable;
@@ -22,7 +22,7 @@ use tag_commands::TagsFault;
 /// Runs `json`: reads the whole input, then writes a line of JSON for each of its top-level tags.
 pub fn write_json<I: Source, W: Sink>(alloc: Global, input: &mut I, output: &mut W) -> Outcome
     ensures { (around : Around) → IsAnswered json_meaning
-        (told_beside around
+        (run_over_streams around
         (input_of I.Source input.old)
         (input_of I.Source input.new)
         (output_of W.Sink output.old)
@@ -143,8 +143,8 @@ fn first_fault(alloc: Global, table: &CodeTable, bytes: &[u8]) -> Result<(), Str
 fn feed_some<'a>(reader: &mut DmapReader, bytes: &'a [u8]) -> Result<&'a [u8], StreamError>
     requires some { bytes.now ≢ [] }
     requires counted { taken reader.old + length bytes.now < 2 ^ 64 }
-    ensures { (all : List ℕ) → Feeds all bytes.now reader.old → MatchResult result
-        (λ rest. Feeds all rest.now reader.new × (length rest.now < length bytes.now))
+    ensures { (all : List ℕ) → HasFedAllBut all bytes.now reader.old → MatchResult result
+        (λ rest. HasFedAllBut all rest.now reader.new × (length rest.now < length bytes.now))
         (λ error. error ≢ StreamError.Memory → HasTagsFault error all) }
 {
     let taken = match reader.feed(bytes) {

@@ -3,7 +3,7 @@
 ghost use Rattle.std.specs.Prelude.{◌≡◌, ◌≢◌, ◌++◌, [], IfOk, IfErr, MatchOption, OnOk};
 ghost use Rattle.code_table.specs.Standard.{standard_rows};
 ghost use Rattle.dmap_tags.specs.Spelling.{spelling};
-ghost use Rattle.command_core.specs.Seen.{Around, input_of, output_of, told_beside, no_share};
+ghost use Rattle.command_core.specs.Seen.{Around, input_of, output_of, run_over_streams, no_share};
 ghost use Rattle.command_core.specs.Endings.{IsAnswered};
 ghost use Rattle.json_commands.specs.Whole.{IsWithin, IsGiven};
 ghost use Rattle.json_commands.specs.JsonBack.{line_text, line_status, GivesTags, IsLinesFault, StopsAfter, StopsBack, TakesLine, json_back_meaning};
@@ -27,9 +27,9 @@ pub enum LineFault {
 }
 
 impl Refusal for LineFault {
-    ghost told_line = { line_text };
+    ghost error_line = { line_text };
 
-    ghost told_status = { line_status };
+    ghost error_status = { line_status };
 
     fn line(&self, alloc: Global) -> Result<Vec<u8>, AllocError> {
         match self {
@@ -58,7 +58,7 @@ fn numbered_line(alloc: Global, number: u64) -> Result<Vec<u8>, AllocError>
 /// Runs `json --back`: reads the whole input, then writes the bytes of the tags that its lines read as.
 pub fn read_json<I: Source, W: Sink>(alloc: Global, input: &mut I, output: &mut W) -> Outcome
     ensures { (around : Around) → IsAnswered json_back_meaning
-        (told_beside around
+        (run_over_streams around
         (input_of I.Source input.old)
         (input_of I.Source input.new)
         (output_of W.Sink output.old)

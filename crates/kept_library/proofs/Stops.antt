@@ -15,7 +15,7 @@ use Rattle.share_replies.specs.Settings.{Settings}
 use Rattle.share_core.specs.Opened.{if_filled}
 use Rattle.share_core.proofs.Opening.{batches-opened}
 use Rattle.kept_library.specs.Faults.{file_fault}
-use Rattle.kept_library.specs.Closing.{LeavesAt, Puts, PutsBatches}
+use Rattle.kept_library.specs.Closing.{LeavesAt, PutsBytes, PutsBatches}
 use Rattle.kept_library.specs.Opening.{CountsFault, CountsStop, LeavesFirst, LeavesRefused, LeavesStanding, StandsAt, StopsOpening, StopsShare, bytes_at, share_of}
 use Rattle.kept_library.specs.declared.fault.FileFault.{FileFault}
 use Rattle.kept_library.specs.declared.fault.FileFault.TheVariants.{NotEditFile, Failed, TooManyEdits, TooManyLists}
@@ -38,7 +38,7 @@ stops_share contents path first bs fault.Memory stood stops = tt
 -- ---- what a refusal leaves
 
 -- the same bytes represent the same batches
-same_stands : (before now : Option Contents) (path : List ℕ) → IfSome before (λ c. Puts path (bytes_at c path) c now) → LeavesStanding path before now
+same_stands : (before now : Option Contents) (path : List ℕ) → IfSome before (λ c. PutsBytes path (bytes_at c path) c now) → LeavesStanding path before now
 same_stands None now path puts bs stands = tt
 same_stands (Some c) now path puts bs stands = record { bytes = bytes_at c path; stands = stands; told = puts }
 
@@ -59,7 +59,7 @@ failed_first (Some c) now path first bs stood left =
     inr (λ other stands. subst (λ l. LeavesAt path l (Some c) now ⊎ LeavesAt path (l ++ if_filled first) (Some c) now) (one_list (bytes_at c path) bs other stood stands) left)
 
 pub leaves_file : (before now : Option Contents) (path : List ℕ) (first : List Edit) (error : FileError)
-    → (error ≢ refusal.Failed → IfSome before (λ c. Puts path (bytes_at c path) c now)) → LeavesStanding path before now → LeavesRefused before now path first (file_fault error)
+    → (error ≢ refusal.Failed → IfSome before (λ c. PutsBytes path (bytes_at c path) c now)) → LeavesStanding path before now → LeavesRefused before now path first (file_fault error)
 leaves_file before now path first (refusal.NotEditFile at) same left = same (λ is. absurd (cc))
 leaves_file before now path first refusal.Failed same left = failed_standing before now path first left
 leaves_file before now path first refusal.Memory same left = same_stands before now path (same (λ is. absurd (cc)))

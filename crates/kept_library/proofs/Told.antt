@@ -10,7 +10,7 @@ use Rattle.edit_file.specs.Moments.{Holds, LeavesOnly}
 use Rattle.edit_file.specs.Standing.{opened, signature, FileStands}
 use Rattle.edit_file.specs.declared.file.EditFile.{EditFile}
 use Rattle.share_core.specs.Opened.{if_filled}
-use Rattle.kept_library.specs.Closing.{LeavesAt, LeavesOrOneMore, Puts, PutsBatches}
+use Rattle.kept_library.specs.Closing.{LeavesAt, LeavesOrOneMore, PutsBytes, PutsBatches}
 use Rattle.kept_library.specs.Opening.{LeavesStanding, LosesFirst, StandsWithFirst, bytes_at}
 
 -- what holds of the bytes of its disk holds of those under its name
@@ -21,7 +21,7 @@ told_at P (Some c) path opened_as bytes opens here = subst (λ (o : Option (List
 
 -- a disk that is closed unchanged leaves its bytes
 pub same_at : (contents now : Option Contents) (path : List ℕ) (opened_as bytes opened_as' bytes' : Option (List ℕ)) → OpensFile contents path opened_as bytes
-    → opened_as' ≡ opened_as → bytes' ≡ bytes → ClosesFile contents now opened_as' bytes' → IfSome contents (λ c. Puts path (bytes_at c path) c now)
+    → opened_as' ≡ opened_as → bytes' ≡ bytes → ClosesFile contents now opened_as' bytes' → IfSome contents (λ c. PutsBytes path (bytes_at c path) c now)
 same_at None now path opened_as bytes opened_as' bytes' opens name same closes = tt
 same_at (Some c) now path opened_as bytes opened_as' bytes' opens name same closes =
     subst (λ b. ClosesFile (Some c) now (Some path) b) (same ∙ opens.1) (subst (λ n. ClosesFile (Some c) now n bytes') (name ∙ opens.0) closes)
@@ -59,11 +59,11 @@ module _ {D : Type 0} (g : Ghosts D) where
 
   -- a disk that is closed leaves bytes that have what each of its images has
   pub leaves_image : BytesCount → (path : List ℕ) (c : Contents) (now : Option Contents) (disk : D) (P : List ℕ → Type 0) → name_of disk ≡ Some path
-      → ((image : List ℕ) → g.images disk image → P image) → ClosesFile (Some c) now (g.opened_as disk) (g.bytes disk) → (bytes : List ℕ) × P bytes × Puts path bytes c now
+      → ((image : List ℕ) → g.images disk image → P image) → ClosesFile (Some c) now (g.opened_as disk) (g.bytes disk) → (bytes : List ℕ) × P bytes × PutsBytes path bytes c now
   leaves_image counts path c now disk P place images closes = by_bytes (g.bytes disk) (g.opened_as disk) refl place closes
     where
       by_bytes : (bytes name : Option (List ℕ)) → g.bytes disk ≡ bytes → (if is_some bytes then name else None) ≡ Some path → ClosesFile (Some c) now name bytes
-          → (b : List ℕ) × P b × Puts path b c now
+          → (b : List ℕ) × P b × PutsBytes path b c now
       by_bytes None name same none closed = absurd (cc)
       by_bytes (Some b) name same is closed = (b, images b (counts disk b same), subst (λ n. ClosesFile (Some c) now n (Some b)) is closed)
 

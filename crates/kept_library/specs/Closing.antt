@@ -11,14 +11,14 @@ use Rattle.edit_file.specs.Standing.{FileStands}
 use Rattle.edit_file.specs.declared.file.EditFile.{EditFile}
 
 -- these bytes are under the name, and those of all other names are unchanged
-abbrev pub Puts : (path bytes : List ℕ) → Contents → Option Contents → Type 0
-Puts path bytes before now = now ≡ Some (finite.insert before path bytes)
+abbrev pub PutsBytes : (path bytes : List ℕ) → Contents → Option Contents → Type 0
+PutsBytes path bytes before now = now ≡ Some (finite.insert before path bytes)
 
 -- bytes that represent the batches are under the name
 pub record PutsBatches (path : List ℕ) (bs : List (List Edit)) (before : Contents) (now : Option Contents) : Type 0 where
   pub bytes : List ℕ
   pub stands : FileStands bytes bs
-  pub told : Puts path bytes before now
+  pub told : PutsBytes path bytes before now
 
 -- .. if the contents were known
 abbrev pub LeavesAt : List ℕ → List (List Edit) → Option Contents → Option Contents → Type 0

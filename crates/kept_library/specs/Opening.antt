@@ -16,7 +16,7 @@ use Rattle.edit_file.specs.Standing.{BreaksAt, FileStands}
 use Rattle.edit_file.specs.declared.file.EditFile.{EditFile}
 use Rattle.command_core.specs.declared.fault.Fault.{Fault}
 use Rattle.command_core.specs.declared.fault.Fault.TheVariants as fault
-use Rattle.kept_library.specs.Closing.{LeavesAt, Puts}
+use Rattle.kept_library.specs.Closing.{LeavesAt, PutsBytes}
 use Rattle.kept_library.specs.declared.fault.FileFault.{FileFault}
 use Rattle.kept_library.specs.declared.fault.FileFault.TheVariants.{NotEditFile, Failed, TooManyEdits, TooManyLists}
 use Rattle.kept_library.specs.declared.opening.KeptLibrary.{KeptLibrary}
@@ -102,7 +102,7 @@ LeavesFirst path first before now =
 -- what is under the file's name after a refusal: the same bytes, or the same batches; if a call failed, perhaps these
 -- and then `first`
 abbrev pub LeavesRefused : (before now : Option Contents) → List ℕ → (first : List Edit) → Fault FileFault → Type 0
-LeavesRefused before now path first (fault.Own (NotEditFile at)) = IfSome before (λ c. Puts path (bytes_at c path) c now)
+LeavesRefused before now path first (fault.Own (NotEditFile at)) = IfSome before (λ c. PutsBytes path (bytes_at c path) c now)
 LeavesRefused before now path first (fault.Own Failed) = (now ≡ before) ⊎ LeavesFirst path first before now
 LeavesRefused before now path first (fault.Own TooManyEdits) = LeavesBatches path before now
 LeavesRefused before now path first (fault.Own TooManyLists) = LeavesBatches path before now

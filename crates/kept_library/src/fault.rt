@@ -23,9 +23,9 @@ pub enum FileFault {
 }
 
 impl Refusal for FileFault {
-    ghost told_line = { file_line };
+    ghost error_line = { file_line };
 
-    ghost told_status = { file_status };
+    ghost error_status = { file_status };
 
     fn line(&self, alloc: Global) -> Result<Vec<u8>, AllocError> {
         match self {

@@ -7,7 +7,7 @@ use Rattle.command_core.specs.declared.fault.Fault.TheVariants.{Own, Read, Memor
 use Rattle.command_core.specs.Endings.{Done, OutputCut, Refused as refused_ending, LineCut}
 use Rattle.command_core.specs.Faults.{fault_line, fault_status}
 use Rattle.command_core.specs.ReadRecords.{records_limit}
-use Rattle.command_core.specs.Seen.{InputSeen, Told}
+use Rattle.command_core.specs.Seen.{InputSeen, Run}
 use Rattle.command_core.proofs.Reading.{read_whole}
 use Rattle.mirror_client.specs.declared.pushing.Pushed.{Pushed}
 use Rattle.mirror_client.specs.declared.pushing.Pushed.TheVariants as pushed
@@ -21,7 +21,7 @@ use Rattle.link_commands.proofs.FirstReply.{IsOutside, answer_is, owed_split, st
 use Rattle.link_commands.specs.declared.edit.EditFault.{EditFault}
 use Rattle.link_commands.specs.declared.edit.EditFault.TheVariants.{TooLong, Unreached, Refused, Link}
 use Rattle.link_commands.specs.Decided.{BeginsDue, DecidesEdit, IsDueAnswer, IsOrMemory, IsSendable}
-use Rattle.link_commands.specs.EditShare.{HasBody, IsEditDone, IsTooLong, StopsEdit, StopsSending, edit_line, edit_meaning, edit_status, told_of}
+use Rattle.link_commands.specs.EditShare.{HasBody, IsEditDone, IsTooLong, StopsEdit, StopsSending, edit_line, edit_meaning, edit_status, push_line}
 use Rattle.link_commands.specs.Linked.{HasLinked, LinkSeen, start_of}
 use Rattle.link_commands.specs.Links.{link_status}
 use Rattle.link_commands.specs.Meanings.{LinkEnds}
@@ -74,7 +74,7 @@ push_due false (Some bytes) before after used answer e has due h = edit_due used
 
 -- a run that succeeded got the expected reply
 made_due : (stop : Bool) (body : Option (List ℕ)) (before after : InputSeen) (answer : Reply) (made : Pushed) (output : List ℕ) → HasBody stop before after body → IsPushed body answer made
-    → told_of made ≡ Ok output → IsDueAnswer stop answer
+    → push_line made ≡ Ok output → IsDueAnswer stop answer
 made_due true None before after answer (pushed.Revision n) output has is told = absurd is
 made_due true None before after answer pushed.Unchanged output has is told = absurd is
 made_due true None before after answer pushed.Stopped output has is told = is
@@ -94,7 +94,7 @@ answered_as stop link request there answer bytes owed b x =
     sym (answer_is x.message answer b.answer bytes split.0 b.rest x.went.answered.0
     (split.1 ∙ ap (λ (front : List ℕ). front ++ split.0) (append-nil (print_message x.message))) (record { message = b.message; is = b.is; split = b.split })).0
 
-done_begins : (host : List ℕ) (stop : Bool) (told : Told) (output bytes : List ℕ) → IsEditDone host stop told.before told.after output
+done_begins : (host : List ℕ) (stop : Bool) (told : Run) (output bytes : List ℕ) → IsEditDone host stop told.before told.after output
     → told.before.around.net.next_input ≡ Some bytes → BeginsDue stop bytes
 done_begins host stop told output bytes done known =
     let owed = owed_is done.link bytes (left_is told.before.around.net.next_input done.link.left bytes known done.linked.input) in
@@ -122,12 +122,12 @@ link_unexpected LinkFault other whole = absurd (whole refl)
 link_unexpected Memory other whole = absurd (other refl)
 
 -- no error was counted on the connection
-no_fault : (host : List ℕ) (told : Told) (link : LinkSeen) (e : FollowError) → HasLinked host told.before.around.net told.after.around.net link → CountsFault 0 link.faults e → IsFaultless told
+no_fault : (host : List ℕ) (told : Run) (link : LinkSeen) (e : FollowError) → HasLinked host told.before.around.net told.after.around.net link → CountsFault 0 link.faults e → IsFaultless told
     → e ≡ LinkFault → ⊥
 no_fault host told link e linked count faultless fault =
     faultless.net (link_rose host told.before.around.net told.after.around.net link linked (subst (λ (f : FollowError). CountsFault 0 link.faults f) fault count))
 
-sent_long : (host : List ℕ) (stop : Bool) (told : Told) (status : ℕ) (link : LinkSeen) (fault : Fault EditFault) (input : List ℕ) → status ≡ fault_status edit_status fault
+sent_long : (host : List ℕ) (stop : Bool) (told : Run) (status : ℕ) (link : LinkSeen) (fault : Fault EditFault) (input : List ℕ) → status ≡ fault_status edit_status fault
     → StopsSending host stop told.before.input told.after.input link fault → IsFaultless told → stop ≡ false → told.before.input.left ≡ Some input → records_limit < length input
     → IsOrMemory 8 status
 sent_long host stop told status link (Own TooLong) input e stops faultless reads known long = inl e
@@ -139,7 +139,7 @@ sent_long host stop told status link (Own (Link error)) input e stops faultless 
 sent_long host stop told status link Read input e stops faultless reads known long = absurd (faultless.input stops.1.rose)
 sent_long host stop told status link wanted input e stops faultless reads known long = inr e
 
-sent_due : (host : List ℕ) (stop : Bool) (told : Told) (status : ℕ) (link : LinkSeen) (fault : Fault EditFault) (bytes : List ℕ) → status ≡ fault_status edit_status fault
+sent_due : (host : List ℕ) (stop : Bool) (told : Run) (status : ℕ) (link : LinkSeen) (fault : Fault EditFault) (bytes : List ℕ) → status ≡ fault_status edit_status fault
     → HasLinked host told.before.around.net told.after.around.net link → StopsSending host stop told.before.input told.after.input link fault → IsFaultless told
     → IsSendable stop told.before.input.left → told.before.around.net.next_input ≡ Some bytes → BeginsDue stop bytes → IsOrMemory 0 status
 sent_due host stop told status link (Own TooLong) bytes e linked stops faultless within known b =
@@ -160,7 +160,7 @@ sent_due host stop told status link (Own (Link error)) bytes e linked stops faul
 sent_due host stop told status link Read bytes e linked stops faultless within known b = absurd (faultless.input stops.1.rose)
 sent_due host stop told status link wanted bytes e linked stops faultless within known b = inr e
 
-sent_unexpected : (host : List ℕ) (stop : Bool) (told : Told) (status : ℕ) (link : LinkSeen) (fault : Fault EditFault) → status ≡ fault_status edit_status fault
+sent_unexpected : (host : List ℕ) (stop : Bool) (told : Run) (status : ℕ) (link : LinkSeen) (fault : Fault EditFault) → status ≡ fault_status edit_status fault
     → HasLinked host told.before.around.net told.after.around.net link → StopsSending host stop told.before.input told.after.input link fault → IsFaultless told
     → IsSendable stop told.before.input.left → IsOrMemory 7 status
 sent_unexpected host stop told status link (Own TooLong) e linked stops faultless within = absurd (long_or_sendable stop told.before.input told.after.input within stops.0)
@@ -174,7 +174,7 @@ sent_unexpected host stop told status link wanted e linked stops faultless withi
 -- ---- a run
 
 -- an error that ends a run over a connection, or out of memory
-by_fault : (host : List ℕ) (stop : Bool) (told : Told) (status n : ℕ) (fault : Fault EditFault) → status ≡ fault_status edit_status fault → StopsEdit host stop told.before told.after fault
+by_fault : (host : List ℕ) (stop : Bool) (told : Run) (status n : ℕ) (fault : Fault EditFault) → status ≡ fault_status edit_status fault → StopsEdit host stop told.before told.after fault
     → IsFaultless told
     → ((link : LinkSeen) → HasLinked host told.before.around.net told.after.around.net link → StopsSending host stop told.before.input told.after.input link fault → IsOrMemory n status)
     → IsOrMemory n status
@@ -182,7 +182,7 @@ by_fault host stop told status n fault e (inl idle) faultless f = inr (e ∙ ap 
 by_fault host stop told status n fault e (inr (inl u)) faultless f = absurd (faultless.net u.unreached.rose)
 by_fault host stop told status n fault e (inr (inr l)) faultless f = f l.link l.linked l.stops
 
-pub edit_decided : (host : List ℕ) (stop : Bool) (told : Told) (status : ℕ) → LinkEnds (edit_meaning host stop) told status → IsFaultless told → DecidesEdit stop told status
+pub edit_decided : (host : List ℕ) (stop : Bool) (told : Run) (status : ℕ) → LinkEnds (edit_meaning host stop) told status → IsFaultless told → DecidesEdit stop told status
 edit_decided host stop told status (Done output, e, (done, w)) faultless = record {
   long = λ reads input known long. absurd (body_or_long stop told.before.input told.after.input done.sent.0 input reads known done.sent.1 long);
   due = λ within bytes known b. inl e;

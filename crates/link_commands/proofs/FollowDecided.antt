@@ -6,7 +6,7 @@ use Rattle.command_core.specs.declared.fault.Fault.{Fault}
 use Rattle.command_core.specs.declared.fault.Fault.TheVariants.{Own, Read, Memory as want}
 use Rattle.command_core.specs.Endings.{Done, OutputCut, Refused as refused_ending, LineCut}
 use Rattle.command_core.specs.Faults.{fault_line, fault_status}
-use Rattle.command_core.specs.Seen.{Told}
+use Rattle.command_core.specs.Seen.{Run}
 use Rattle.mirror_core.specs.Mirrored.{Mirrored}
 use Rattle.mirror_client.specs.declared.refusal.FollowError.{FollowError}
 use Rattle.mirror_client.specs.declared.refusal.FollowError.TheVariants.{LinkFault, Memory}
@@ -32,7 +32,7 @@ texts_once : (query meta : Option (List ℕ)) (target : Target) (m : Mirrored) �
 texts_once query meta target m (inl refused) asks = read_or_refused query asks.asked refused.0 refused.1 asks.query_is refused.2
 texts_once query meta target m (inr many) asks = let bad : Some asks.shown ≡ None = sym asks.meta_is ∙ many.2 in absurd (cc)
 
-fault_refused : (host : List ℕ) (rounds : ℕ) (query meta : Option (List ℕ)) (target : Target) (told : Told) (status : ℕ) (fault : Fault FollowFault) (front : List ℕ)
+fault_refused : (host : List ℕ) (rounds : ℕ) (query meta : Option (List ℕ)) (target : Target) (told : Run) (status : ℕ) (fault : Fault FollowFault) (front : List ℕ)
     → status ≡ fault_status follow_status fault → StopsFollowBy host rounds query meta target told.before told.after fault front → IsTextRefused query meta → IsOrMemory 3 status
 fault_refused host rounds query meta target told status (Own (Query error)) front e stops refused = inl e
 fault_refused host rounds query meta target told status (Own Meta) front e stops refused = inl e
@@ -41,7 +41,7 @@ fault_refused host rounds query meta target told status (Own (Link error)) front
 fault_refused host rounds query meta target told status Read front e stops refused = absurd stops
 fault_refused host rounds query meta target told status want front e stops refused = inr e
 
-pub follow_refused : (host : List ℕ) (rounds : ℕ) (query meta : Option (List ℕ)) (target : Target) (told : Told) (status : ℕ) → LinkEnds (follow_meaning host rounds query meta target) told status
+pub follow_refused : (host : List ℕ) (rounds : ℕ) (query meta : Option (List ℕ)) (target : Target) (told : Run) (status : ℕ) → LinkEnds (follow_meaning host rounds query meta target) told status
     → (Rose told.output_before.faults told.output_after.faults → ⊥) → IsTextRefused query meta → IsOrMemory 3 status
 follow_refused host rounds query meta target told status (Done output, e, (done, w)) whole refused = absurd (texts_once query meta target done.m refused done.for.asks)
 follow_refused host rounds query meta target told status (OutputCut output, e, c) whole refused = absurd (whole (behind_rose told.output_before told.output_after c.front c.last c.cut))
@@ -52,14 +52,14 @@ follow_refused host rounds query meta target told status (LineCut front fault, e
 -- ---- the bytes of the connection
 
 -- an error of the connection that ends a run was counted on the network
-pub link_goes_on : (host : List ℕ) (rounds : ℕ) (query meta : Option (List ℕ)) (target : Target) (told : Told) (e : FollowError) (front : List ℕ) → e ≢ Memory
+pub link_goes_on : (host : List ℕ) (rounds : ℕ) (query meta : Option (List ℕ)) (target : Target) (told : Run) (e : FollowError) (front : List ℕ) → e ≢ Memory
     → (x : StopsFollowing host rounds query meta target told.before told.after e front) → IsFaultless told → (e ≡ LinkFault) ⊎ (e ≡ Memory) → ⊥
 link_goes_on host rounds query meta target told e front other x faultless (inl fault) =
     faultless.net (link_rose host told.before.around.net told.after.around.net x.link x.for.linked
     (subst (λ (f : FollowError). CountsFault 0 x.link.faults f) fault x.stops.count))
 link_goes_on host rounds query meta target told e front other x faultless (inr memory) = other memory
 
-done_run : (host : List ℕ) (rounds : ℕ) (query meta : Option (List ℕ)) (target : Target) (told : Told) (output bytes : List ℕ)
+done_run : (host : List ℕ) (rounds : ℕ) (query meta : Option (List ℕ)) (target : Target) (told : Run) (output bytes : List ℕ)
     (done : IsFollowDone host rounds query meta target told.before told.after output) → told.before.around.net.next_input ≡ Some bytes → BeginsRun host done.m rounds bytes
 done_run host rounds query meta target told output bytes done known =
     let f = done.followed.followed in
@@ -76,7 +76,7 @@ done_run host rounds query meta target told output bytes done known =
       one_each = f.one_each;
     }
 
-fault_due : (host : List ℕ) (rounds : ℕ) (query meta : Option (List ℕ)) (target : Target) (told : Told) (status : ℕ) (fault : Fault FollowFault) (front bytes : List ℕ)
+fault_due : (host : List ℕ) (rounds : ℕ) (query meta : Option (List ℕ)) (target : Target) (told : Run) (status : ℕ) (fault : Fault FollowFault) (front bytes : List ℕ)
     → status ≡ fault_status follow_status fault → StopsFollowBy host rounds query meta target told.before told.after fault front → IsFaultless told
     → told.before.around.net.next_input ≡ Some bytes → HasRun host rounds query meta target bytes → IsOrMemory 0 status
 fault_due host rounds query meta target told status (Own (Query error)) front bytes e stops faultless known r =
@@ -93,7 +93,7 @@ fault_due host rounds query meta target told status (Own (Link error)) front byt
 fault_due host rounds query meta target told status Read front bytes e stops faultless known r = absurd stops
 fault_due host rounds query meta target told status want front bytes e stops faultless known r = inr e
 
-fault_unexpected : (host : List ℕ) (rounds : ℕ) (query meta : Option (List ℕ)) (target : Target) (told : Told) (status : ℕ) (fault : Fault FollowFault) (front bytes : List ℕ)
+fault_unexpected : (host : List ℕ) (rounds : ℕ) (query meta : Option (List ℕ)) (target : Target) (told : Run) (status : ℕ) (fault : Fault FollowFault) (front bytes : List ℕ)
     → status ≡ fault_status follow_status fault → StopsFollowBy host rounds query meta target told.before told.after fault front → IsFaultless told
     → HasNoRun host rounds query meta target bytes → IsOrMemory 7 status
 fault_unexpected host rounds query meta target told status (Own (Query error)) front bytes e stops faultless r =
@@ -106,7 +106,7 @@ fault_unexpected host rounds query meta target told status (Own (Link error)) fr
 fault_unexpected host rounds query meta target told status Read front bytes e stops faultless r = absurd stops
 fault_unexpected host rounds query meta target told status want front bytes e stops faultless r = inr e
 
-pub follow_decided : (host : List ℕ) (rounds : ℕ) (query meta : Option (List ℕ)) (target : Target) (told : Told) (status : ℕ) → LinkEnds (follow_meaning host rounds query meta target) told status
+pub follow_decided : (host : List ℕ) (rounds : ℕ) (query meta : Option (List ℕ)) (target : Target) (told : Run) (status : ℕ) → LinkEnds (follow_meaning host rounds query meta target) told status
     → IsFaultless told → DecidesFollow host rounds query meta target told status
 follow_decided host rounds query meta target told status (Done output, e, (done, w)) faultless = record {
   due = λ bytes known r. inl e;

@@ -8,12 +8,12 @@ use Rattle.command_core.proofs.Reading.{all_read_on, failed_within, past_limit}
 use Rattle.command_core.specs.declared.fault.Fault.{Fault}
 use Rattle.command_core.specs.declared.fault.Fault.TheVariants.{Own, Read, Memory as want}
 use Rattle.command_core.specs.declared.outcome.Outcome.{Outcome}
-use Rattle.command_core.specs.Answers.{TellsFault, TellsMemory}
+use Rattle.command_core.specs.Answers.{WritesError, WritesMemory}
 use Rattle.command_core.proofs.Appending.{none_written}
 use Rattle.command_core.specs.Endings.{Done, OutputCut, Refused as refused_ending, LineCut}
 use Rattle.command_core.specs.Faults.{fault_status, read_fault}
 use Rattle.command_core.specs.ReadRecords.{records_limit}
-use Rattle.command_core.specs.Seen.{InputSeen, Seen, Told, IsUnread}
+use Rattle.command_core.specs.Seen.{InputSeen, Seen, Run, IsUnread}
 use Rattle.mirror_client.specs.declared.pushing.Pushed.{Pushed}
 use Rattle.mirror_client.specs.declared.pushing.Pushed.TheVariants.{Revision as revision, Unchanged as unchanged, Stopped as stopped, Refused as refusal}
 use Rattle.mirror_client.specs.declared.refusal.FollowError.{FollowError}
@@ -21,7 +21,7 @@ use Rattle.mirror_client.specs.declared.refusal.FollowError.TheVariants.{Refused
 use Rattle.mirror_client.specs.Pushes.{UnexpectedPush, push_text}
 use Rattle.link_commands.specs.declared.edit.EditFault.{EditFault}
 use Rattle.link_commands.specs.declared.edit.EditFault.TheVariants.{TooLong, Unreached, Refused, Link}
-use Rattle.link_commands.specs.EditShare.{EditReadsOn, HasBody, HasPushed, HasSent, IsEditDone, IsToldFault, IsUnsent, StopsEdit, StopsPush, StopsSending, edit_meaning, edit_line, edit_status, push_fault, told_of}
+use Rattle.link_commands.specs.EditShare.{EditReadsOn, HasBody, HasPushed, HasSent, IsEditDone, IsPushRefusal, IsUnsent, StopsEdit, StopsPush, StopsSending, edit_meaning, edit_line, edit_status, push_fault, push_line}
 use Rattle.link_commands.specs.Linked.{HasLinked, IsUnreached, LinkSeen, start_of}
 use Rattle.link_commands.specs.Links.{link_status}
 use Rattle.link_commands.specs.Meanings.{IsLinkAnswered, KeepsNet, LinkEnds}
@@ -71,7 +71,7 @@ sending_rose host stop before after link (Own (Link e)) linked stops h =
 sending_rose host stop before after link Read linked stops h = absurd (cc)
 sending_rose host stop before after link want linked stops h = absurd (cc)
 
-stop_keeps : (host : List ℕ) (stop : Bool) (told : Told) (fault : Fault EditFault) (status : ℕ) → status ≡ fault_status edit_status fault
+stop_keeps : (host : List ℕ) (stop : Bool) (told : Run) (fault : Fault EditFault) (status : ℕ) → status ≡ fault_status edit_status fault
     → StopsEdit host stop told.before told.after fault → KeepsNet host told status
 stop_keeps host stop told fault status s (inl u) = record {
   asked = inl u.0.net;
@@ -86,7 +86,7 @@ stop_keeps host stop told fault status s (inr (inr l)) = record {
   faultless = λ zero. absurd (edit_fails fault (sym s ∙ zero));
 }
 
-keeps_net : (host : List ℕ) (stop : Bool) (told : Told) (status : ℕ) → LinkEnds (edit_meaning host stop) told status → KeepsNet host told status
+keeps_net : (host : List ℕ) (stop : Bool) (told : Run) (status : ℕ) → LinkEnds (edit_meaning host stop) told status → KeepsNet host told status
 keeps_net host stop told status (Done output, s, (done, w)) = record {
   asked = inr done.linked.asked;
   rose = λ six. let bad : 0 ≡ 6 = sym s ∙ six in absurd (cc);
@@ -138,10 +138,10 @@ own_is status text f h = ap (λ (r : Result (List ℕ) EditFault). err_or r (Ref
 
 -- the line of the result was made, or the share refused
 pub told_fault : (host : List ℕ) (stop : Bool) (before after : InputSeen) (body : Option (List ℕ)) (link : LinkSeen) (made : Pushed) (fault : Fault EditFault)
-    → HasPushed host body link made → IsToldFault made fault → HasBody stop before after body → StopsSending host stop before after link fault
+    → HasPushed host body link made → IsPushRefusal made fault → HasBody stop before after body → StopsSending host stop before after link fault
 told_fault host stop before after body link made (Own own) pushed told has = by_made made own pushed told
   where
-    by_made : (p : Pushed) (f : EditFault) → HasPushed host body link p → told_of p ≡ Err f → StopsSending host stop before after link (Own f)
+    by_made : (p : Pushed) (f : EditFault) → HasPushed host body link p → push_line p ≡ Err f → StopsSending host stop before after link (Own f)
     by_made (revision n) f x h = absurd (cc)
     by_made unchanged f x h = absurd (cc)
     by_made stopped f x h = absurd (cc)
@@ -187,7 +187,7 @@ abbrev nothing : List ℕ
 nothing = []
 
 pub edit_done : (host : List ℕ) (stop : Bool) (before after : Seen) (link : LinkSeen) (answer : Result (Vec ℕ Global) (Fault EditFault)) → HasLinked host before.around.net after.around.net link
-    → IfOk answer (λ bytes. (made : Pushed) × HasSent host stop before.input after.input link made × (told_of made ≡ Ok bytes.items))
+    → IfOk answer (λ bytes. (made : Pushed) × HasSent host stop before.input after.input link made × (push_line made ≡ Ok bytes.items))
     → IfOk answer (λ bytes. IsEditDone host stop before after bytes.items × (IsEditDone host stop before after bytes.items × (nothing ≡ [])))
 edit_done host stop before after link (Ok bytes) linked h =
     let done : IsEditDone host stop before after bytes.items = record { link = link; linked = linked; made = h.0; sent = h.1; told = h.2 } in (done, (done, refl))
@@ -203,16 +203,16 @@ edit_stops host stop before after link (Err fault) linked h = (
 )
 
 -- no connection was made
-pub edit_unlinked : (host : List ℕ) (stop : Bool) (told : Told) (outcome : Outcome) → IsUnread told.before.input told.after.input
+pub edit_unlinked : (host : List ℕ) (stop : Bool) (told : Run) (outcome : Outcome) → IsUnread told.before.input told.after.input
     → IsUnreached host told.before.around.net told.after.around.net
-    → TellsFault edit_line edit_status (Own Unreached) told.output_before told.output_after outcome → IsLinkAnswered (edit_meaning host stop) told outcome
+    → WritesError edit_line edit_status (Own Unreached) told.output_before told.output_after outcome → IsLinkAnswered (edit_meaning host stop) told outcome
 edit_unlinked host stop told outcome unread unreached t =
     by_fault (edit_meaning host stop) (edit_promised host stop) told told.output_before outcome [] (Own Unreached)
     (inr (inl (record { unread = unread; unreached = unreached; is = inl refl })), refl)
     (inr (inl (record { unread = unread; unreached = unreached; is = inr refl })), refl) (none_written told.output_before) t
 
 -- out of memory before anything was done
-pub edit_idle : (host : List ℕ) (stop : Bool) (told : Told) (outcome : Outcome) → told.after ≡ told.before
-    → TellsMemory None told.output_before told.output_after outcome → IsLinkAnswered (edit_meaning host stop) told outcome
+pub edit_idle : (host : List ℕ) (stop : Bool) (told : Run) (outcome : Outcome) → told.after ≡ told.before
+    → WritesMemory None told.output_before told.output_after outcome → IsLinkAnswered (edit_meaning host stop) told outcome
 edit_idle host stop told outcome same t =
     by_idle (edit_meaning host stop) (edit_promised host stop) told outcome (inl (untouched told.before told.after same, refl), refl) t

@@ -25,7 +25,7 @@ use Rattle.link_commands.specs.declared.rounds.Stop.TheVariants.{Output, Link}
 use Rattle.link_commands.specs.FollowShare.{lines_of}
 use Rattle.link_commands.specs.Linked.{LinkSeen, start_of}
 use Rattle.link_commands.specs.RoundLines.{round_line, round_lines}
-use Rattle.link_commands.specs.Rounds.{CountsStop, EndsLine, EndsRound, EndsRounds, StopsRound, StopsRounds, TellsRound}
+use Rattle.link_commands.specs.Rounds.{CountsStop, EndsLine, EndsRound, EndsRounds, StopsRound, StopsRounds, WritesRound}
 
 -- ---- results
 
@@ -101,7 +101,7 @@ Listed host known old now p q done =
 
 pub listing_tells : (host : List ℕ) (known : Known) (m old now : Mirrored) (rounds : ℕ) (ls : List Listing) (p q : Point) (before after : OutputSeen) (done : Applied)
     → Listed host known old now p q done → old ≡ with_listings m ls → IsWritten before after (round_line done)
-    → TellsRound host known m now rounds ls (Asking known ls) p q before after
+    → WritesRound host known m now rounds ls (Asking known ls) p q before after
 listing_tells host known m old now rounds ls p q before after done x is line =
     let y = listed_one host known m old now rounds ls p q (all_applied m.held ls) (all_applied m.held ls ++ done ∷ []) done x refl is refl in
     record { listing = y.0; done = done; holds = y.1; told = y.2; walks = y.3; line = line }
@@ -152,7 +152,7 @@ waits host known m old rounds revision n ls p mid base more is x =
     (subst (λ (r : ℕ). Exchanged (request_text (want.Update known.session r) host) p mid x.0) base x.1) x.2
 
 tells_on : (host : List ℕ) (known : Known) (m now : Mirrored) (rounds : ℕ) (ls : List Listing) (s t : Stage) (p mid q : Point) (before after : OutputSeen)
-    → Walks host m rounds s p t mid → TellsRound host known m now rounds ls t mid q before after → TellsRound host known m now rounds ls s p q before after
+    → Walks host m rounds s p t mid → WritesRound host known m now rounds ls t mid q before after → WritesRound host known m now rounds ls s p q before after
 tells_on host known m now rounds ls s t p mid q before after w x = record {
   listing = x.listing;
   done = x.done;
@@ -180,11 +180,11 @@ ends_on host known m now rounds ls s t p mid taken before after (Link e) w x =
 -- after another revision
 pub next_tells : (host other : List ℕ) (known same : Known) (m old now : Mirrored) (rounds revision n : ℕ) (ls : List Listing) (p mid q : Point) (before after : OutputSeen)
     → other ≡ host → same ≡ known → revision ≡ old.held.revision → (length ls == rounds) ≡ false → old ≡ with_listings m ls → Waited host known revision n p mid
-    → TellsRound other same m now rounds ls (Asking same ls) mid q before after → TellsRound host known m now rounds ls (Holding known ls) p q before after
+    → WritesRound other same m now rounds ls (Asking same ls) mid q before after → WritesRound host known m now rounds ls (Holding known ls) p q before after
 next_tells host other known same m old now rounds revision n ls p mid q before after host_is known_is base more is x y =
     tells_on host known m now rounds ls (Holding known ls) (Asking known ls) p mid q before after (waits host known m old rounds revision n ls p mid base more is x)
-    (subst (λ (h : List ℕ). TellsRound h known m now rounds ls (Asking known ls) mid q before after) host_is
-    (subst (λ (k : Known). TellsRound other k m now rounds ls (Asking k ls) mid q before after) known_is y))
+    (subst (λ (h : List ℕ). WritesRound h known m now rounds ls (Asking known ls) mid q before after) host_is
+    (subst (λ (k : Known). WritesRound other k m now rounds ls (Asking k ls) mid q before after) known_is y))
 
 pub next_ends : (host other : List ℕ) (known same : Known) (m old now : Mirrored) (rounds revision n : ℕ) (ls : List Listing) (p mid : Point) (taken : Option (List ℕ))
     (before after : OutputSeen) (stop : Stop) → other ≡ host → same ≡ known → revision ≡ old.held.revision → (length ls == rounds) ≡ false → old ≡ with_listings m ls

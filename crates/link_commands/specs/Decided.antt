@@ -11,13 +11,13 @@ use Rattle.share_history.specs.Listings.{Listing}
 use Rattle.http_heads.specs.Messages.{Message, print_message}
 use Rattle.http_client.specs.Replies.{IsReply, Reply}
 use Rattle.command_core.specs.ReadRecords.{records_limit}
-use Rattle.command_core.specs.Seen.{Told}
+use Rattle.command_core.specs.Seen.{Run}
 use Rattle.mirror_core.specs.Mirrored.{Mirrored}
 use Rattle.mirror_client.specs.Exchanges.{AreAnswered, Exchange, messages}
 use Rattle.mirror_client.specs.Stages.{Begun, Closed, Path}
 use Rattle.mirror_client.specs.Steps.{Known}
 use Rattle.mirror_client.specs.Tellings.{TellsNumber}
-use Rattle.link_commands.specs.Looks.{AsksMirror, AsksQuery, HasRefusal, meta_asked}
+use Rattle.link_commands.specs.Looks.{AsksMirror, AsksQuery, HasRefusal, meta_or_default}
 
 abbrev pub IsOrMemory : (wanted status : ℕ) → Type 0
 IsOrMemory wanted status = (status ≡ wanted) ⊎ (status ≡ 9)
@@ -43,7 +43,7 @@ abbrev pub IsSendable : (stop : Bool) → Option (List ℕ) → Type 0
 IsSendable true left = Unit {0}
 IsSendable false left = (input : List ℕ) × (left ≡ Some input) × (length input ≤ records_limit)
 
-pub record DecidesEdit (stop : Bool) (told : Told) (status : ℕ) : Type 0 where
+pub record DecidesEdit (stop : Bool) (told : Run) (status : ℕ) : Type 0 where
   -- the input is too long
   pub long : stop ≡ false → (input : List ℕ) → told.before.input.left ≡ Some input → records_limit < length input → IsOrMemory 8 status
   -- it is sent, and the reply is expected
@@ -58,7 +58,7 @@ pub record DecidesEdit (stop : Bool) (told : Told) (status : ℕ) : Type 0 where
 abbrev pub IsTextRefused : (query meta : Option (List ℕ)) → Type 0
 IsTextRefused query meta =
     ((error : QueryError) × (error ≢ query_error.Memory) × HasRefusal query error)
-    ⊎ ((asked : Option Query) × AsksQuery query asked × (meta_asked meta ≡ None))
+    ⊎ ((asked : Option Query) × AsksQuery query asked × (meta_or_default meta ≡ None))
 
 -- the bytes begin with the replies that lead the mirror from the first request through all rounds to the end
 pub record BeginsRun (host : List ℕ) (m : Mirrored) (rounds : ℕ) (bytes : List ℕ) : Type 0 where
@@ -83,6 +83,6 @@ pub record HasNoRun (host : List ℕ) (rounds : ℕ) (query meta : Option (List 
   pub asks : AsksMirror query meta target m
   pub none : BeginsRun host m rounds bytes → ⊥
 
-pub record DecidesFollow (host : List ℕ) (rounds : ℕ) (query meta : Option (List ℕ)) (target : Target) (told : Told) (status : ℕ) : Type 0 where
+pub record DecidesFollow (host : List ℕ) (rounds : ℕ) (query meta : Option (List ℕ)) (target : Target) (told : Run) (status : ℕ) : Type 0 where
   pub due : (bytes : List ℕ) → told.before.around.net.next_input ≡ Some bytes → HasRun host rounds query meta target bytes → IsOrMemory 0 status
   pub unexpected : (bytes : List ℕ) → told.before.around.net.next_input ≡ Some bytes → HasNoRun host rounds query meta target bytes → IsOrMemory 7 status

@@ -25,8 +25,8 @@ use Rattle.link_commands.specs.Meanings.{LinkMeaning}
 use Rattle.link_commands.specs.Promises.{EditPromises}
 
 -- the text of a share's refusal is shown up to this length
-abbrev pub text_limit : ℕ
-text_limit = 4096
+abbrev pub refusal_text_limit : ℕ
+refusal_text_limit = 4096
 
 -- ---- what is sent
 
@@ -87,17 +87,17 @@ abbrev pub number_line : List ℕ → ℕ → List ℕ
 number_line words n = words ++ (decimal n ++ 10 ∷ [])
 
 -- the line that is written of it
-abbrev pub told_of : Pushed → Result (List ℕ) EditFault
-told_of (pushed.Revision n) = Ok (number_line (codes "revision ") n)
-told_of pushed.Unchanged = Ok (codes "unchanged" ++ 10 ∷ [])
-told_of pushed.Stopped = Ok (codes "stopped" ++ 10 ∷ [])
-told_of (pushed.Refused status text) = Err (Refused status text)
+abbrev pub push_line : Pushed → Result (List ℕ) EditFault
+push_line (pushed.Revision n) = Ok (number_line (codes "revision ") n)
+push_line pushed.Unchanged = Ok (codes "unchanged" ++ 10 ∷ [])
+push_line pushed.Stopped = Ok (codes "stopped" ++ 10 ∷ [])
+push_line (pushed.Refused status text) = Err (Refused status text)
 
 -- ---- errors
 
 -- a text that is too long is not shown
 abbrev pub shown_text : List ℕ → List ℕ
-shown_text text = if nat_le (length text) text_limit then text else []
+shown_text text = if nat_le (length text) refusal_text_limit then text else []
 
 abbrev pub edit_line : EditFault → List ℕ
 edit_line TooLong = codes "limit: input" ++ 10 ∷ []
@@ -149,7 +149,7 @@ pub record IsEditDone (host : List ℕ) (stop : Bool) (before after : Seen) (out
   pub linked : HasLinked host before.around.net after.around.net link
   pub made : Pushed
   pub sent : HasSent host stop before.input after.input link made
-  pub told : told_of made ≡ Ok output
+  pub told : push_line made ≡ Ok output
 
 abbrev pub edit_meaning : List ℕ → (stop : Bool) → LinkMeaning
 edit_meaning host stop = record {
@@ -164,10 +164,10 @@ edit_meaning host stop = record {
 
 -- ---- errors of `edit` for those of the functions below
 
-abbrev pub IsToldFault : Pushed → Fault EditFault → Type 0
-IsToldFault made (Own own) = told_of made ≡ Err own
-IsToldFault made Read = ⊥
-IsToldFault made want = Unit {0}
+abbrev pub IsPushRefusal : Pushed → Fault EditFault → Type 0
+IsPushRefusal made (Own own) = push_line made ≡ Err own
+IsPushRefusal made Read = ⊥
+IsPushRefusal made want = Unit {0}
 
 abbrev pub push_fault : FollowError → Fault EditFault
 push_fault (refused status) = Own (Link (refused status))

@@ -22,7 +22,7 @@ use Rattle.link_commands.specs.declared.follow.FollowFault.{FollowFault}
 use Rattle.link_commands.specs.declared.follow.FollowFault.TheVariants.{Query, Meta, Unreached, Link}
 use Rattle.link_commands.specs.Linked.{HasLinked, IsUnreached, IsUntouched, LinkSeen, start_of}
 use Rattle.link_commands.specs.Links.{link_line, link_status}
-use Rattle.link_commands.specs.Looks.{AsksMirror, AsksQuery, HasRefusal, meta_asked}
+use Rattle.link_commands.specs.Looks.{AsksMirror, AsksQuery, HasRefusal, meta_or_default}
 use Rattle.link_commands.specs.Meanings.{LinkMeaning}
 use Rattle.link_commands.specs.RoundLines.{round_lines, shown_rows}
 use Rattle.link_commands.specs.Promises.{FollowPromises}
@@ -129,7 +129,7 @@ abbrev pub StopsFollowBy : List ℕ → ℕ → (query meta : Option (List ℕ))
 StopsFollowBy host rounds query meta target before after (Own (Query error)) front =
     (error ≢ query_error.Memory) × HasRefusal query error × IsUntouched before after × (front ≡ [])
 StopsFollowBy host rounds query meta target before after (Own Meta) front =
-    ((asked : Option query_type) × AsksQuery query asked) × (meta_asked meta ≡ None) × IsUntouched before after × (front ≡ [])
+    ((asked : Option query_type) × AsksQuery query asked) × (meta_or_default meta ≡ None) × IsUntouched before after × (front ≡ [])
 StopsFollowBy host rounds query meta target before after (Own Unreached) front = IsUnlinked host query meta target before after × (front ≡ [])
 StopsFollowBy host rounds query meta target before after (Own (Link error)) front =
     (error ≢ Memory) × StopsFollowing host rounds query meta target before after error front

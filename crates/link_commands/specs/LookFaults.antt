@@ -9,12 +9,12 @@ use Rattle.command_core.specs.declared.fault.Fault.{Fault}
 use Rattle.command_core.specs.declared.fault.Fault.TheVariants.{Own, Read, Memory}
 use Rattle.link_commands.specs.declared.follow.FollowFault.{FollowFault}
 use Rattle.link_commands.specs.declared.follow.FollowFault.TheVariants.{Query, Meta, Unreached, Link}
-use Rattle.link_commands.specs.Looks.{AsksQuery, HasRefusal, meta_asked}
+use Rattle.link_commands.specs.Looks.{AsksQuery, HasRefusal, meta_or_default}
 
 -- the query's text is refused; or the query is read, and there are too many names
 abbrev pub IsLookFault : (query meta : Option (List ℕ)) → Fault FollowFault → Type 0
 IsLookFault query_text meta_text (Own (Query error)) = (error ≢ query.Memory) × HasRefusal query_text error
-IsLookFault query_text meta_text (Own Meta) = ((asked : Option query_type) × AsksQuery query_text asked) × (meta_asked meta_text ≡ None)
+IsLookFault query_text meta_text (Own Meta) = ((asked : Option query_type) × AsksQuery query_text asked) × (meta_or_default meta_text ≡ None)
 IsLookFault query_text meta_text (Own Unreached) = ⊥
 IsLookFault query_text meta_text (Own (Link error)) = ⊥
 IsLookFault query_text meta_text Read = ⊥

@@ -21,9 +21,9 @@ HasRefusal None error = ⊥
 HasRefusal (Some text) error = Answers text (Err error)
 
 -- the properties that a text names; without a text, the default ones
-abbrev pub meta_asked : Option (List ℕ) → Option Meta
-meta_asked None = Some Default
-meta_asked (Some text) = meta_of text
+abbrev pub meta_or_default : Option (List ℕ) → Option Meta
+meta_or_default None = Some Default
+meta_or_default (Some text) = meta_of text
 
 -- a mirror that holds nothing yet
 abbrev pub mirror_of : Target → Option Query → Meta → Mirrored
@@ -34,5 +34,5 @@ pub record AsksMirror (query meta : Option (List ℕ)) (target : Target) (m : Mi
   pub asked : Option Query
   pub shown : Meta
   pub query_is : AsksQuery query asked
-  pub meta_is : meta_asked meta ≡ Some shown
+  pub meta_is : meta_or_default meta ≡ Some shown
   pub is : m ≡ mirror_of target asked shown

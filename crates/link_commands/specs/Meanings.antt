@@ -6,11 +6,11 @@ use Rattle.command_core.specs.declared.fault.Fault.{Fault}
 use Rattle.command_core.specs.declared.outcome.Outcome.{Outcome}
 use Rattle.command_core.specs.Endings.{Ending, Done, OutputCut, Refused, LineCut, IsWritten, IsCut}
 use Rattle.command_core.specs.Faults.{fault_line, fault_status}
-use Rattle.command_core.specs.Seen.{OutputSeen, Seen, Told}
+use Rattle.command_core.specs.Seen.{OutputSeen, Seen, Run}
 
 -- of every run: it connects at most once; the network's error counter rose if the status reports a network failure, and
 -- did not if the run succeeded
-pub record KeepsNet (host : List ℕ) (told : Told) (status : ℕ) : Type 0 where
+pub record KeepsNet (host : List ℕ) (told : Run) (status : ℕ) : Type 0 where
   pub asked : (told.after.around.net ≡ told.before.around.net) ⊎ Grows told.before.around.net.asked told.after.around.net.asked ((host, 0) ∷ [])
   pub rose : status ≡ 6 → Rose told.before.around.net.faults told.after.around.net.faults
   pub faultless : status ≡ 0 → told.after.around.net.faults ≡ told.before.around.net.faults
@@ -27,7 +27,7 @@ pub record LinkMeaning : Type 1 where
   -- an error ends it, by its cause, after this prefix of the output
   pub stops : Seen → Seen → Fault fault → List ℕ → Type 0
   -- what follows for a run and its status if enough is known of the outside
-  pub promises : Told → ℕ → Type 0
+  pub promises : Run → ℕ → Type 0
 
 abbrev pub ending_status : (m : LinkMeaning) → Ending m.fault → ℕ
 ending_status m (Done output) = 0
@@ -42,7 +42,7 @@ pub record IsCutBehind (before after : OutputSeen) (front last : List ℕ) : Typ
   pub cut : IsCut at_cut after last
 
 -- the output failed in the last part of `output`, and nothing was done since
-pub record IsOutputCut (m : LinkMeaning) (told : Told) (output : List ℕ) : Type 0 where
+pub record IsOutputCut (m : LinkMeaning) (told : Run) (output : List ℕ) : Type 0 where
   pub front : List ℕ
   pub last : List ℕ
   pub is : output ≡ front ++ last
@@ -50,20 +50,20 @@ pub record IsOutputCut (m : LinkMeaning) (told : Told) (output : List ℕ) : Typ
   pub cut : IsCutBehind told.output_before told.output_after front last
 
 -- the ways in which a run may end
-abbrev pub Happens : (m : LinkMeaning) → Told → Ending m.fault → Type 0
-Happens m told (Done output) = m.is_done told.before told.after output × IsWritten told.output_before told.output_after output
-Happens m told (OutputCut output) = IsOutputCut m told output
-Happens m told (Refused front fault) =
+abbrev pub EndsAs : (m : LinkMeaning) → Run → Ending m.fault → Type 0
+EndsAs m told (Done output) = m.is_done told.before told.after output × IsWritten told.output_before told.output_after output
+EndsAs m told (OutputCut output) = IsOutputCut m told output
+EndsAs m told (Refused front fault) =
     m.stops told.before told.after fault front × IsWritten told.output_before told.output_after (front ++ fault_line m.line fault)
-Happens m told (LineCut front fault) =
+EndsAs m told (LineCut front fault) =
     m.stops told.before told.after fault front × IsCutBehind told.output_before told.output_after front (fault_line m.line fault)
 
 -- the run ended in one of them, with its status
-abbrev pub LinkEnds : (m : LinkMeaning) → Told → ℕ → Type 0
-LinkEnds m told status = (ending : Ending m.fault) × (status ≡ ending_status m ending) × Happens m told ending
+abbrev pub LinkEnds : (m : LinkMeaning) → Run → ℕ → Type 0
+LinkEnds m told status = (ending : Ending m.fault) × (status ≡ ending_status m ending) × EndsAs m told ending
 
 -- the outcome of a run is as the specification says; the command opens no share
-pub record IsLinkAnswered (m : LinkMeaning) (told : Told) (outcome : Outcome) : Type 0 where
+pub record IsLinkAnswered (m : LinkMeaning) (told : Run) (outcome : Outcome) : Type 0 where
   pub unopened : outcome.history ≡ None
   pub ends : LinkEnds m told outcome.status
   pub promised : m.promises told outcome.status

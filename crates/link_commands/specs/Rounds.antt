@@ -19,7 +19,7 @@ use Rattle.link_commands.specs.Meanings.{IsCutBehind}
 use Rattle.link_commands.specs.RoundLines.{round_line}
 
 -- one more round was made from stage `s`, and its line was written
-pub record TellsRound (host : List ℕ) (known : Known) (m now : Mirrored) (rounds : ℕ) (ls : List Listing) (s : Stage) (p q : Point) (before after : OutputSeen) : Type 0 where
+pub record WritesRound (host : List ℕ) (known : Known) (m now : Mirrored) (rounds : ℕ) (ls : List Listing) (s : Stage) (p q : Point) (before after : OutputSeen) : Type 0 where
   pub listing : Listing
   pub done : Applied
   pub holds : now ≡ with_listings m (ls ++ listing ∷ [])

@@ -1,9 +1,9 @@
 //! The command `edit`: sends records or a stop to a share.
 
 ghost use Rattle.std.specs.Prelude.{◌≡◌, ◌++◌, Bool, Ok, IfOk, IfErr, MatchResult, option_copied};
-ghost use Rattle.command_core.specs.Seen.{FilesSeen, InputSeen, input_of, net_of, output_of, told_over};
+ghost use Rattle.command_core.specs.Seen.{FilesSeen, InputSeen, input_of, net_of, output_of, run_over_net};
 ghost use Rattle.mirror_client.specs.declared.pushing.Pushed.{Pushed};
-ghost use Rattle.link_commands.specs.EditShare.{HasBody, HasPushed, HasSent, IsToldFault, StopsSending, edit_line, edit_meaning, edit_status, push_fault, shown_text, told_of};
+ghost use Rattle.link_commands.specs.EditShare.{HasBody, HasPushed, HasSent, IsPushRefusal, StopsSending, edit_line, edit_meaning, edit_status, push_fault, shown_text, push_line};
 ghost use Rattle.link_commands.specs.Linked.{link_seen};
 ghost use Rattle.link_commands.specs.Meanings.{IsLinkAnswered};
 
@@ -34,9 +34,9 @@ pub enum EditFault {
 }
 
 impl Refusal for EditFault {
-    ghost told_line = { edit_line };
+    ghost error_line = { edit_line };
 
-    ghost told_status = { edit_status };
+    ghost error_status = { edit_status };
 
     fn line(&self, alloc: Global) -> Result<Vec<u8>, AllocError> {
         match self {
@@ -83,7 +83,7 @@ pub fn edit_share<I: Source, W: Sink, N: Net>(
     net: &mut N,
 ) -> Outcome
     ensures answered { (files : FilesSeen) → IsLinkAnswered (edit_meaning place.now stop)
-        (told_over files
+        (run_over_net files
         (input_of I.Source input.old)
         (input_of I.Source input.new)
         (net_of N.Net net.old)
@@ -95,7 +95,7 @@ pub fn edit_share<I: Source, W: Sink, N: Net>(
 {
     match net.connect(place) {
         Ok(mut link) => {
-            let answer = sent(alloc, place, stop, input, &mut link);
+            let answer = send_edit(alloc, place, stop, input, &mut link);
             net.close(link);
             write_result(alloc, output, answer)
         }
@@ -104,7 +104,7 @@ pub fn edit_share<I: Source, W: Sink, N: Net>(
 }
 
 /// Sends the records or the stop over `link`. Returns the line of the result.
-fn sent<I: Source, K: Link>(
+fn send_edit<I: Source, K: Link>(
     alloc: Global,
     place: &str,
     stop: bool,
@@ -114,23 +114,23 @@ fn sent<I: Source, K: Link>(
     requires { K.faults link.old ≡ 0 }
     ensures sent { IfOk result (λ bytes. (made : Pushed)
         × HasSent place.now stop (input_of I.Source input.old) (input_of I.Source input.new)
-        (link_seen (K.taken link.old) (K.left link.old) (K.taken link.new) (K.faults link.new)) made × (told_of made ≡ Ok bytes.items)) }
+        (link_seen (K.taken link.old) (K.left link.old) (K.taken link.new) (K.faults link.new)) made × (push_line made ≡ Ok bytes.items)) }
     ensures stops { IfErr result
         (λ fault. StopsSending place.now stop (input_of I.Source input.old)
         (input_of I.Source input.new)
         (link_seen (K.taken link.old) (K.left link.old) (K.taken link.new) (K.faults link.new)) fault) }
 {
     if stop {
-        return pushed(alloc, place, None, link);
+        return push_body(alloc, place, None, link);
     }
     match read_within(alloc, input, RECORDS_LIMIT) {
-        Ok(records) => pushed(alloc, place, Some(records.as_slice()), link),
+        Ok(records) => push_body(alloc, place, Some(records.as_slice()), link),
         Err(error) => Err(read_fault(error, EditFault::TooLong)),
     }
 }
 
 /// Sends `body`, or a stop if it is `None`. Returns the line of what the share made of it.
-fn pushed<K: Link>(
+fn push_body<K: Link>(
     alloc: Global,
     place: &str,
     body: Option<&[u8]>,
@@ -138,21 +138,21 @@ fn pushed<K: Link>(
 ) -> Result<Vec<u8>, Fault<EditFault>>
     requires { K.faults link.old ≡ 0 }
     ensures pushed { IfOk result (λ bytes. (made : Pushed)
-        × HasPushed place.now (option_copied body.entry) (link_seen (K.taken link.old) (K.left link.old) (K.taken link.new) (K.faults link.new)) made × (told_of made ≡ Ok bytes.items)) }
+        × HasPushed place.now (option_copied body.entry) (link_seen (K.taken link.old) (K.left link.old) (K.taken link.new) (K.faults link.new)) made × (push_line made ≡ Ok bytes.items)) }
     ensures stops { IfErr result (λ fault. (stop : Bool) (before after : InputSeen)
         → HasBody stop before after (option_copied body.entry)
         → StopsSending place.now stop before after (link_seen (K.taken link.old) (K.left link.old) (K.taken link.new) (K.faults link.new)) fault) }
 {
     match push_link(alloc, link, place, body) {
-        Ok(made) => told(alloc, made),
+        Ok(made) => push_line(alloc, made),
         Err(error) => Err(push_fault(error)),
     }
 }
 
 /// Returns the line of what the share made of an edit or a stop, or its refusal.
-fn told(alloc: Global, made: Pushed) -> Result<Vec<u8>, Fault<EditFault>>
-    ensures { MatchResult result (λ bytes. told_of made ≡ Ok bytes.items)
-        (λ fault. IsToldFault made fault) }
+fn push_line(alloc: Global, made: Pushed) -> Result<Vec<u8>, Fault<EditFault>>
+    ensures { MatchResult result (λ bytes. push_line made ≡ Ok bytes.items)
+        (λ fault. IsPushRefusal made fault) }
 {
     match made {
         Pushed::Revision(n) => Ok(number_line(alloc, b"revision ", u64::from(n))?),

@@ -1,10 +1,10 @@
 //! The command `follow`: mirrors one listing of a share.
 
 ghost use Rattle.std.specs.Prelude.{◌≡◌, ◌≤◌, option_copied, MatchResult};
-ghost use Rattle.command_core.specs.Seen.{FilesSeen, InputSeen, net_of, output_of, told_over};
+ghost use Rattle.command_core.specs.Seen.{FilesSeen, InputSeen, net_of, output_of, run_over_net};
 ghost use Rattle.link_commands.specs.FollowShare.{follow_line, follow_meaning, follow_status, link_fault};
 ghost use Rattle.link_commands.specs.Meanings.{IsLinkAnswered};
-ghost use Rattle.link_commands.specs.Ended.{TellsRows, TellsStop};
+ghost use Rattle.link_commands.specs.Ended.{WritesRows, WritesStop};
 
 use crate::answer::{link_line, link_status};
 use crate::look::mirror_for;
@@ -33,9 +33,9 @@ pub enum FollowFault {
 }
 
 impl Refusal for FollowFault {
-    ghost told_line = { follow_line };
+    ghost error_line = { follow_line };
 
-    ghost told_status = { follow_status };
+    ghost error_status = { follow_status };
 
     fn line(&self, alloc: Global) -> Result<Vec<u8>, AllocError> {
         match self {
@@ -73,7 +73,7 @@ pub fn follow_share<W: Sink, N: Net>(
     ensures answered { (files : FilesSeen) (input : InputSeen)
         → IsLinkAnswered (follow_meaning place.now rounds (option_copied query.entry)
         (option_copied meta.entry) target)
-        (told_over files input input
+        (run_over_net files input input
         (net_of N.Net net.old)
         (net_of N.Net net.new)
         (output_of W.Sink output.old)
@@ -89,17 +89,17 @@ pub fn follow_share<W: Sink, N: Net>(
         Ok(mut link) => {
             let end = follow_rounds(alloc, place, rounds, &mut mirror, &mut link, output);
             net.close(link);
-            ended(alloc, &mirror, end, output)
+            finish(alloc, &mirror, end, output)
         }
         Err(Failed) => write_error(alloc, output, &Fault::Own(FollowFault::Unreached)),
     }
 }
 
 /// Writes the rows that the mirror holds after the last round, or the line of the error that ended the rounds.
-fn ended<W: Sink>(alloc: Global, mirror: &Mirror, end: Result<(), Stop>, output: &mut W) -> Outcome
+fn finish<W: Sink>(alloc: Global, mirror: &Mirror, end: Result<(), Stop>, output: &mut W) -> Outcome
     ensures { MatchResult end
-        (λ _. TellsRows mirror.now.held.rows (output_of W.Sink output.old) (output_of W.Sink output.new) result)
-        (λ stop. TellsStop stop (output_of W.Sink output.old) (output_of W.Sink output.new) result) }
+        (λ _. WritesRows mirror.now.held.rows (output_of W.Sink output.old) (output_of W.Sink output.new) result)
+        (λ stop. WritesStop stop (output_of W.Sink output.old) (output_of W.Sink output.new) result) }
 {
     match end {
         Ok(()) => match shown_rows(alloc, mirror) {

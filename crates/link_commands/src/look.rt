@@ -3,7 +3,7 @@
 ghost use Rattle.std.specs.Prelude.{◌≡◌, Some, option_copied, IfOk, IfErr};
 ghost use Rattle.share_asks.specs.Valid.{MayAsk};
 ghost use Rattle.link_commands.specs.LookFaults.{IsLookFault, query_fault, meta_fault};
-ghost use Rattle.link_commands.specs.Looks.{AsksMirror, AsksQuery, HasRefusal, meta_asked};
+ghost use Rattle.link_commands.specs.Looks.{AsksMirror, AsksQuery, HasRefusal, meta_or_default};
 
 use crate::follow::FollowFault;
 use command_core::Fault;
@@ -60,9 +60,9 @@ fn query_fault(error: QueryError) -> Fault<FollowFault>
 }
 
 fn meta_of(alloc: Global, text: Option<&Text>) -> Result<Meta, MetaError>
-    ensures read { IfOk result (λ meta. meta_asked (option_copied text.entry) ≡ Some meta) }
+    ensures read { IfOk result (λ meta. meta_or_default (option_copied text.entry) ≡ Some meta) }
     ensures refused { result ≡ Err MetaError.TooMany
-        → meta_asked (option_copied text.entry) ≡ None }
+        → meta_or_default (option_copied text.entry) ≡ None }
 {
     match text {
         Some(text) => Meta::read(alloc, text.as_str()),

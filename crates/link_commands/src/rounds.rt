@@ -13,7 +13,7 @@ ghost use Rattle.mirror_client.specs.Steps.{with_listings};
 ghost use Rattle.link_commands.specs.FollowShare.{HasFollowed};
 ghost use Rattle.link_commands.specs.Linked.{link_seen};
 ghost use Rattle.link_commands.specs.RoundLines.{round_line, round_lines};
-ghost use Rattle.link_commands.specs.Rounds.{CountsStop, EndsLine, EndsRound, EndsRounds, TellsRound};
+ghost use Rattle.link_commands.specs.Rounds.{CountsStop, EndsLine, EndsRound, EndsRounds, WritesRound};
 
 use crate::shown::round_line;
 use mirror_client::{FollowError, Follower};
@@ -54,12 +54,12 @@ pub(crate) fn follow_rounds<K: Link, W: Sink>(
         Ok(follower) => follower,
         Err(error) => return Err(Stop::Link(error)),
     };
-    match tell_round(alloc, &mut follower, link, mirror, output) {
+    match run_round(alloc, &mut follower, link, mirror, output) {
         Ok(()) => {}
         Err(stop) => return Err(stop),
     }
     for round in 1..rounds {
-        match tell_next(alloc, &mut follower, link, mirror, output) {
+        match run_next_round(alloc, &mut follower, link, mirror, output) {
             Ok(()) => {}
             Err(stop) => return Err(stop),
         }
@@ -71,7 +71,7 @@ pub(crate) fn follow_rounds<K: Link, W: Sink>(
 }
 
 // Requests one more listing, and writes its line.
-fn tell_round<K: Link, W: Sink>(
+fn run_round<K: Link, W: Sink>(
     alloc: Global,
     follower: &mut Follower,
     link: &mut K,
@@ -82,7 +82,7 @@ fn tell_round<K: Link, W: Sink>(
     requires asks { MayAsk mirror.old.query }
     ensures tells { OnOk result ((m : Mirrored) (rounds : ℕ) (ls : List Listing)
         → mirror.old ≡ with_listings m ls
-        → TellsRound follower.old.host follower.old.known m mirror.new rounds ls (Asking follower.old.known ls) (place (K.taken link.old) (K.left link.old) follower.old.ahead) (place (K.taken link.new) (K.left link.new) follower.new.ahead)
+        → WritesRound follower.old.host follower.old.known m mirror.new rounds ls (Asking follower.old.known ls) (place (K.taken link.old) (K.left link.old) follower.old.ahead) (place (K.taken link.new) (K.left link.new) follower.new.ahead)
         (output_of W.Sink output.old) (output_of W.Sink output.new)) }
     ensures ends { IfErr result (λ stop. (m : Mirrored) (rounds : ℕ) (ls : List Listing)
         → mirror.old ≡ with_listings m ls
@@ -96,13 +96,13 @@ fn tell_round<K: Link, W: Sink>(
         (λ stop. CountsStop (K.faults link.old) (K.faults link.new) stop) }
 {
     match follower.listing(link, mirror) {
-        Ok(done) => tell(alloc, done, output),
+        Ok(done) => write_round(alloc, done, output),
         Err(error) => Err(Stop::Link(error)),
     }
 }
 
 // Writes the line of a round.
-fn tell<W: Sink>(alloc: Global, done: Applied, output: &mut W) -> Result<(), Stop>
+fn write_round<W: Sink>(alloc: Global, done: Applied, output: &mut W) -> Result<(), Stop>
     ensures { MatchResult result
         (λ _. IsWritten (output_of W.Sink output.old) (output_of W.Sink output.new) (round_line done))
         (λ stop. EndsLine done (output_of W.Sink output.old) (output_of W.Sink output.new) stop) }
@@ -117,7 +117,7 @@ fn tell<W: Sink>(alloc: Global, done: Applied, output: &mut W) -> Result<(), Sto
 }
 
 // Waits for another revision, then requests one more listing and writes its line.
-fn tell_next<K: Link, W: Sink>(
+fn run_next_round<K: Link, W: Sink>(
     alloc: Global,
     follower: &mut Follower,
     link: &mut K,
@@ -128,7 +128,7 @@ fn tell_next<K: Link, W: Sink>(
     requires asks { MayAsk mirror.old.query }
     ensures tells { OnOk result ((m : Mirrored) (rounds : ℕ) (ls : List Listing)
         → mirror.old ≡ with_listings m ls → (length ls == rounds) ≡ false
-        → TellsRound follower.old.host follower.old.known m mirror.new rounds ls (Holding follower.old.known ls) (place (K.taken link.old) (K.left link.old) follower.old.ahead) (place (K.taken link.new) (K.left link.new) follower.new.ahead)
+        → WritesRound follower.old.host follower.old.known m mirror.new rounds ls (Holding follower.old.known ls) (place (K.taken link.old) (K.left link.old) follower.old.ahead) (place (K.taken link.new) (K.left link.new) follower.new.ahead)
         (output_of W.Sink output.old) (output_of W.Sink output.new)) }
     ensures ends { IfErr result (λ stop. (m : Mirrored) (rounds : ℕ) (ls : List Listing)
         → mirror.old ≡ with_listings m ls → (length ls == rounds) ≡ false
@@ -142,7 +142,7 @@ fn tell_next<K: Link, W: Sink>(
         (λ stop. CountsStop (K.faults link.old) (K.faults link.new) stop) }
 {
     match follower.wait(link, mirror.base()) {
-        Ok(_) => tell_round(alloc, follower, link, mirror, output),
+        Ok(_) => run_round(alloc, follower, link, mirror, output),
         Err(error) => Err(Stop::Link(error)),
     }
 }

@@ -10,11 +10,11 @@ use Rattle.outside_net.specs.declared.net.NetError.TheVariants as nets
 use Rattle.share_crew.specs.Listeners.{HaveLinks}
 use Rattle.share_crew.proofs.Nets.{grows_none, grows_then, grows_told, rose_then, stood_then}
 use Rattle.relay_command.specs.Faults.{net_fault}
-use Rattle.relay_command.specs.Places.{StopsOpening, unused}
+use Rattle.relay_command.specs.Places.{StopsOpening, unused_link}
 
 -- a connection that had taken nothing was closed
 pub unused_back : (w w' : Option (List Returned)) (taken : Option (List ℕ)) (faults : ℕ) → BeginsEmpty w taken → faults ≡ 0 → GrowsByTold w w' (returned taken faults)
-    → Grows w w' unused
+    → Grows w w' unused_link
 unused_back None None taken faults begun none grows = tt
 unused_back None (Some now) None faults begun none grows = absurd (cc)
 unused_back None (Some now) (Some bytes) faults begun none grows = grows

@@ -8,7 +8,7 @@ use Rattle.share_asks.specs.declared.ask.Role.TheVariants as role
 use Rattle.share_replies.specs.Settings.{Settings}
 use Rattle.share_replies.specs.Laws.{is_edit, maker}
 use Rattle.share_server.specs.Passes.{Pass}
-use Rattle.share_crew.specs.Stints.{Stint, IsHistoryOf, IsPart, numbers_of_all, passes_in}
+use Rattle.share_crew.specs.WorkerRuns.{WorkerRun, IsHistoryOf, IsPart, numbers_of_all, passes_in}
 use Rattle.share_crew.proofs.Numbers.{head_or_tail}
 use Rattle.share_crew.proofs.Players.{ArePlayers, IsNoPlayers, IsQuietIn, by_another_in, each_at_in, no_edits, players_lose_nothing, quiet_players_in}
 use Rattle.relay_share.proofs.LeftFacts.{relays_leave_steps, relays_show_what_they_read, shares_make_steps}
@@ -24,34 +24,34 @@ each_alone kind number [] each = tt
 each_alone kind number (e ∷ h) each = (each 0 e (omega arith), each_alone kind number h (λ i d less. each (suc i) d (omega (arith, less))))
 
 module _ {settings : Settings} where
-  pub are_players : (n : ℕ) (crew : List (Stint settings [])) → map (λ stint. stint.role) crew ≡ replicate n role.Listen → ArePlayers crew
+  pub are_players : (n : ℕ) (crew : List (WorkerRun settings [])) → map (λ worker_run. worker_run.role) crew ≡ replicate n role.Listen → ArePlayers crew
   are_players n [] are = tt
   are_players zero (s ∷ crew) are = absurd (cc)
   are_players (suc n) (s ∷ crew) are =
       let one : s.role ≡ role.Listen = cc in
-      let more : map (λ stint. stint.role) crew ≡ replicate n role.Listen = cc in
+      let more : map (λ worker_run. worker_run.role) crew ≡ replicate n role.Listen = cc in
       ((one, players_lose_nothing s one), are_players n crew more)
 
   -- an entry of a kind that players do not add is of the relay's number
-  by_relay : (kind : Entry → Bool) (e : Entry) (crew : List (Stint settings [])) (relay : Pass) → kind e ≡ true → AllByRecursion (λ s. IsQuietIn kind s.pass.number e) crew
+  by_relay : (kind : Entry → Bool) (e : Entry) (crew : List (WorkerRun settings [])) (relay : Pass) → kind e ≡ true → AllByRecursion (λ s. IsQuietIn kind s.pass.number e) crew
       → Contains (numbers_of_all (passes_in crew ++ relay ∷ [])) (maker e) → maker e ≡ relay.number
   by_relay kind e crew relay is quiet has =
       at
       (head_or_tail (maker e) relay.number []
       (by_another_in kind e crew [] (relay ∷ []) is quiet
-      (subst (λ (stints : List (Stint settings [])). Contains (numbers_of_all (passes_in stints ++ relay ∷ [])) (maker e)) (sym (append-nil crew)) has)))
+      (subst (λ (worker_runs : List (WorkerRun settings [])). Contains (numbers_of_all (passes_in worker_runs ++ relay ∷ [])) (maker e)) (sym (append-nil crew)) has)))
     where
       at : (maker e ≡ relay.number) ⊎ Contains [] (maker e) → maker e ≡ relay.number
       at (inl same) = same
       at (inr none) = let h = none.1 in absurd (omega arith)
 
-  pub made_alone : (kind : Entry → Bool) → IsNoPlayers kind → (passes : ℕ) (history : List Entry) (crew : List (Stint settings [])) (relay : Pass) → ArePlayers crew
+  pub made_alone : (kind : Entry → Bool) → IsNoPlayers kind → (passes : ℕ) (history : List Entry) (crew : List (WorkerRun settings [])) (relay : Pass) → ArePlayers crew
       → IsHistoryOf passes history crew (relay ∷ []) → MadeAlone kind relay.number history
   made_alone kind none passes history crew relay are one =
       let parts : AllByRecursion (IsPart history) (crew ++ []) =
-      subst (λ (stints : List (Stint settings [])). AllByRecursion (IsPart history) stints) (sym (append-nil crew)) one.parts in
+      subst (λ (worker_runs : List (WorkerRun settings [])). AllByRecursion (IsPart history) worker_runs) (sym (append-nil crew)) one.parts in
       let numbered : AllByRecursion (λ n. (1 ≤ n) × (n ≤ passes)) (numbers_of_all (passes_in (crew ++ []) ++ relay ∷ [])) =
-      subst (λ (stints : List (Stint settings [])). AllByRecursion (λ n. (1 ≤ n) × (n ≤ passes)) (numbers_of_all (passes_in stints ++ relay ∷ []))) (sym (append-nil crew)) one.numbered in
+      subst (λ (worker_runs : List (WorkerRun settings [])). AllByRecursion (λ n. (1 ≤ n) × (n ≤ passes)) (numbers_of_all (passes_in worker_runs ++ relay ∷ []))) (sym (append-nil crew)) one.numbered in
       let quiet = quiet_players_in kind none history one.later crew [] (relay ∷ []) passes are parts numbered (All-nil (λ e. maker e ≡ 0)) one.begins in
       subst (MadeAlone kind relay.number) (sym one.begins)
       (each_alone kind relay.number one.later

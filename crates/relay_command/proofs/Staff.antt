@@ -9,16 +9,16 @@ use Rattle.share_lock.specs.Passes.{LockId}
 use Rattle.share_lock.proofs.Fronts.{all_rest}
 use Rattle.share_server.specs.Passes.{Pass}
 use Rattle.share_workers.specs.declared.worker.Worker.{Worker}
-use Rattle.share_crew.specs.Crews.{HasHired, IsHired}
+use Rattle.share_crew.specs.Crews.{AddsWorkers, IsNewWorker}
 
 module _ {D : Type 0} where
-  pub hired_all : (id : LockId) (k k' : Pass) (role : Role) (listeners : List D) (before after : List (Worker D)) → before ≡ [] → k' ≡ k → HasHired id k role listeners before after
-      → All (IsHired id k') after
+  pub hired_all : (id : LockId) (k k' : Pass) (role : Role) (listeners : List D) (before after : List (Worker D)) → before ≡ [] → k' ≡ k → AddsWorkers id k role listeners before after
+      → All (IsNewWorker id k') after
   hired_all id k k' role listeners before after none same h =
       let are : after ≡ h.added = h.are ∙ ap (λ (l : List (Worker D)). l ++ h.added) none in
-      subst (λ (p : Pass). All (IsHired id p) after) (sym same) (subst (All (IsHired id k)) (sym are) h.hired)
+      subst (λ (p : Pass). All (IsNewWorker id p) after) (sym same) (subst (All (IsNewWorker id k)) (sym are) h.hired)
 
-  pub roles_all : (id : LockId) (k : Pass) (role : Role) (listeners : List D) (before after : List (Worker D)) → before ≡ [] → HasHired id k role listeners before after
+  pub roles_all : (id : LockId) (k : Pass) (role : Role) (listeners : List D) (before after : List (Worker D)) → before ≡ [] → AddsWorkers id k role listeners before after
       → map (λ (w : Worker D). w.role) after ≡ map (λ (w : Worker D). role) after
   roles_all id k role listeners before after none h =
       let are : after ≡ h.added = h.are ∙ ap (λ (l : List (Worker D)). l ++ h.added) none in

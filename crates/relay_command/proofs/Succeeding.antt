@@ -18,6 +18,6 @@ end_done end.Memory is going = absurd (cc)
 
 pub successes_make_all_rounds : SuccessesMakeAllRounds
 successes_make_all_rounds relaying front net net' output output' left r success =
-    let crew = crew_fault (verdict_of (map (λ stint. stint.end) r.crew)) in
+    let crew = crew_fault (verdict_of (map (λ worker_run. worker_run.end) r.crew)) in
     end_done r.relay.report.end (other_none crew (end_fault r.relay.report.end) (end_none _ _ r.at_line output' left.status r.told success))
     (runs_are_not_stopped relaying front net net' output output' left r)

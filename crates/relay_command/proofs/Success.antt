@@ -9,8 +9,8 @@ use Rattle.link_commands.specs.declared.follow.FollowFault.TheVariants as follow
 use Rattle.mirror_client.specs.declared.refusal.FollowError.TheVariants as peer
 use Rattle.share_crew.specs.declared.verdict.Verdict.{Verdict}
 use Rattle.share_crew.specs.declared.verdict.Verdict.TheVariants as crew
-use Rattle.relay_command.specs.Faults.{crew_fault, rank_of, relay_status, worse}
-use Rattle.relay_command.specs.Runs.{TellsBehind, TellsEnd}
+use Rattle.relay_command.specs.Faults.{crew_fault, rank_of, relay_status, worse_of}
+use Rattle.relay_command.specs.Runs.{WritesThenError, WritesEnd}
 use Rattle.relay_command.specs.declared.fault.RelayFault.{RelayFault}
 use Rattle.relay_command.specs.declared.fault.RelayFault.TheVariants.{Network, Requests, Library, Row, Peer}
 
@@ -33,7 +33,7 @@ no_success (fault.Own (Peer (follow.Link peer.Memory))) is = let e : 9 ≡ 0 = i
 no_success fault.Read is = let e : 4 ≡ 0 = is in omega (arith, e)
 no_success fault.Memory is = let e : 9 ≡ 0 = is in omega (arith, e)
 
-behind_none : (text : List ℕ) (f : Option (Fault RelayFault)) (before after : OutputSeen) (status : ℕ) → TellsBehind text f before after status → status ≡ 0 → f ≡ None
+behind_none : (text : List ℕ) (f : Option (Fault RelayFault)) (before after : OutputSeen) (status : ℕ) → WritesThenError text f before after status → status ≡ 0 → f ≡ None
 behind_none text None before after status h zero = refl
 behind_none text (Some f) before after status (inl (inl h)) zero = absurd (no_success f (sym h.0 ∙ zero))
 behind_none text (Some f) before after status (inl (inr h)) zero = absurd (omega (arith, h.0, zero))
@@ -41,10 +41,10 @@ behind_none text (Some f) before after status (inr (inl h)) zero = absurd (omega
 behind_none text (Some f) before after status (inr (inr h)) zero = absurd (omega (arith, h.0, zero))
 
 -- if the worse of two is `None`, the first is `None`
-first_none : (one other : Option (Fault RelayFault)) → worse one other ≡ None → one ≡ None
+first_none : (one other : Option (Fault RelayFault)) → worse_of one other ≡ None → one ≡ None
 first_none None other is = refl
 first_none (Some f) None is =
-    let first : worse (Some f) None ≡ Some f = ap (λ (b : Bool). cond b (Some f) None) (le-leb 0 (rank_of (Some f)) (omega arith)) in
+    let first : worse_of (Some f) None ≡ Some f = ap (λ (b : Bool). cond b (Some f) None) (le-leb 0 (rank_of (Some f)) (omega arith)) in
     let none : Some f ≡ None = sym first ∙ is in
     absurd (cc)
 first_none (Some f) (Some g) is = absurd (by_rank (nat_le (rank_of (Some g)) (rank_of (Some f))) is)
@@ -60,7 +60,7 @@ ranked false false true = refl
 ranked false false false = refl
 
 -- and so is the other
-pub other_none : (one other : Option (Fault RelayFault)) → worse one other ≡ None → other ≡ None
+pub other_none : (one other : Option (Fault RelayFault)) → worse_of one other ≡ None → other ≡ None
 other_none None None is = refl
 other_none None (Some f) is =
     let status : ℕ = fault_status relay_status f in
@@ -68,9 +68,9 @@ other_none None (Some f) is =
     absurd (cc)
 other_none (Some f) other is = let none : Some f ≡ None = first_none (Some f) other is in absurd (cc)
 
-pub end_none : (lines : List ℕ) (f : Option (Fault RelayFault)) (before after : OutputSeen) (status : ℕ) → TellsEnd lines f before after status → status ≡ 0 → f ≡ None
+pub end_none : (lines : List ℕ) (f : Option (Fault RelayFault)) (before after : OutputSeen) (status : ℕ) → WritesEnd lines f before after status → status ≡ 0 → f ≡ None
 end_none lines f before after status (inl h) zero = behind_none lines f before after status h zero
-end_none lines f before after status (inr h) zero = first_none f (Some fault.Memory) (behind_none [] (worse f (Some fault.Memory)) before after status h zero)
+end_none lines f before after status (inr h) zero = first_none f (Some fault.Memory) (behind_none [] (worse_of f (Some fault.Memory)) before after status h zero)
 
 crew_none : (v : Verdict) → crew_fault v ≡ None → v ≡ crew.Done
 crew_none crew.Done is = refl
@@ -79,5 +79,5 @@ crew_none crew.FileFailed is = absurd (cc)
 crew_none crew.OutOfMemory is = absurd (cc)
 crew_none crew.Exhausted is = absurd (cc)
 
-pub crew_done : (v : Verdict) (other : Option (Fault RelayFault)) → worse (crew_fault v) other ≡ None → v ≡ crew.Done
+pub crew_done : (v : Verdict) (other : Option (Fault RelayFault)) → worse_of (crew_fault v) other ≡ None → v ≡ crew.Done
 crew_done v other is = crew_none v (first_none (crew_fault v) other is)

@@ -1,6 +1,6 @@
 -- A share that was put under its lock, or was not.
 use Rattle.std.specs.Prelude.{◌≡◌, ◌⊎◌, ◌+◌, ℕ, List, [], ◌++◌}
-use Rattle.command_core.specs.Answers.{Tells}
+use Rattle.command_core.specs.Answers.{Writes}
 use Rattle.command_core.specs.Endings.{IsCut, IsWritten}
 use Rattle.command_core.specs.Faults.{memory_line}
 use Rattle.command_core.specs.Seen.{OutputSeen}
@@ -24,4 +24,4 @@ pub record HasBegun {D : Type 0} (relaying : Relaying) (output output' : OutputS
 -- an allocation failed before the line, or the output failed in it, or an allocation failed after it
 abbrev pub NotAnnounced : (line : List ℕ) → OutputSeen → OutputSeen → ℕ → Type 0
 NotAnnounced line before after status =
-    Tells 9 memory_line before after status ⊎ ((status ≡ 5) × IsCut before after line) ⊎ Tells 9 (line ++ memory_line) before after status
+    Writes 9 memory_line before after status ⊎ ((status ≡ 5) × IsCut before after line) ⊎ Writes 9 (line ++ memory_line) before after status

@@ -59,5 +59,5 @@ abbrev pub rank_of : Option (Fault RelayFault) → ℕ
 rank_of None = 0
 rank_of (Some fault) = rank_of_status (fault_status relay_status fault)
 
-abbrev pub worse : Option (Fault RelayFault) → Option (Fault RelayFault) → Option (Fault RelayFault)
-worse one other = if nat_le (rank_of other) (rank_of one) then one else other
+abbrev pub worse_of : Option (Fault RelayFault) → Option (Fault RelayFault) → Option (Fault RelayFault)
+worse_of one other = if nat_le (rank_of other) (rank_of one) then one else other

@@ -28,8 +28,8 @@ abbrev pub StopsOpening : ℕ → ℕ → Fault RelayFault → Type 0
 StopsOpening before after stop = ((stop ≡ fault.Own Network) × Rose before after) ⊎ ((stop ≡ fault.Memory) × (after ≡ before))
 
 -- what a connection that had taken nothing adds when it is closed
-abbrev pub unused : List Returned
-unused = ([], false) ∷ []
+abbrev pub unused_link : List Returned
+unused_link = ([], false) ∷ []
 
 -- an address was not opened; if a connection was made, it had taken nothing, and was closed
 pub record FailsToOpen (relaying : Relaying) (before after : NetSeen) (stop : Fault RelayFault) : Type 0 where
@@ -37,11 +37,11 @@ pub record FailsToOpen (relaying : Relaying) (before after : NetSeen) (stop : Fa
   pub count : ℕ
   pub few : count ≤ 2
   pub asked : Grows before.asked after.asked (take count (places_of relaying))
-  pub written : Grows before.written after.written (take (count - 1) unused)
+  pub written : Grows before.written after.written (take (count - 1) unused_link)
   pub stops : StopsOpening before.faults after.faults stop
 
 -- the connection and the listeners were closed unused
-pub record IsGivenBack (relaying : Relaying) (before after : NetSeen) : Type 0 where
+pub record HasClosedUnused (relaying : Relaying) (before after : NetSeen) : Type 0 where
   pub asked : Grows before.asked after.asked (places_of relaying)
-  pub written : Grows before.written after.written unused
+  pub written : Grows before.written after.written unused_link
   pub faultless : after.faults ≡ before.faults

@@ -3,12 +3,12 @@
 ghost use Rattle.std.specs.Prelude.{◌≡◌, ◌<◌, ◌^◌, ◌++◌, Some, map, IfOk, MatchResult};
 ghost use Rattle.command_core.specs.Seen.{output_of};
 ghost use Rattle.command_core.specs.declared.fault.Fault.TheVariants.{Memory};
-ghost use Rattle.relay_command.specs.Faults.{worse};
+ghost use Rattle.relay_command.specs.Faults.{worse_of};
 ghost use Rattle.share_history.specs.Histories.{batches, revision};
 ghost use Rattle.share_crew.specs.Outcomes.{LeavesShare};
 ghost use Rattle.share_crew.specs.Lines.{ended_line, links_in, requests_in};
 ghost use Rattle.relay_command.specs.Lines.{round_line, round_lines};
-ghost use Rattle.relay_command.specs.Runs.{TellsBehind, TellsEnd, TellsRuling, last_lines};
+ghost use Rattle.relay_command.specs.Runs.{WritesThenError, WritesEnd, WritesLastError, last_lines};
 
 use crate::fault::{RelayFault, rank_of};
 use command_core::{Fault, write_error};
@@ -32,7 +32,7 @@ pub(crate) fn finish<W: Sink>(
     requires links { links_in links < 2 ^ 64 }
     requires requests { requests_in links < 2 ^ 64 }
     ensures left { LeavesShare share.history links result }
-    ensures told { TellsEnd (last_lines (revision (batches share.history)) links rounds.now fault)
+    ensures told { WritesEnd (last_lines (revision (batches share.history)) links rounds.now fault)
         fault
         (output_of W.Sink output.old)
         (output_of W.Sink output.new)
@@ -98,11 +98,11 @@ fn write_end<W: Sink>(
     fault: Option<Fault<RelayFault>>,
 ) -> u8
     ensures { MatchResult lines
-        (λ text. TellsBehind text.items fault
+        (λ text. WritesThenError text.items fault
         (output_of W.Sink output.old)
         (output_of W.Sink output.new)
         result)
-        (λ _. TellsRuling (worse fault (Some Memory))
+        (λ _. WritesLastError (worse_of fault (Some Memory))
         (output_of W.Sink output.old)
         (output_of W.Sink output.new)
         result) }
@@ -118,7 +118,7 @@ fn write_end<W: Sink>(
 
 // Writes the line of `fault`, if there is one. Returns the status.
 fn write_verdict<W: Sink>(alloc: Global, output: &mut W, fault: Option<Fault<RelayFault>>) -> u8
-    ensures { TellsRuling fault (output_of W.Sink output.old) (output_of W.Sink output.new) result }
+    ensures { WritesLastError fault (output_of W.Sink output.old) (output_of W.Sink output.new) result }
 {
     match fault {
         Some(fault) => write_error(alloc, output, &fault).status,
@@ -128,7 +128,7 @@ fn write_verdict<W: Sink>(alloc: Global, output: &mut W, fault: Option<Fault<Rel
 
 // Returns the error that counts if an allocation failed besides.
 fn with_memory(fault: Option<Fault<RelayFault>>) -> Option<Fault<RelayFault>>
-    ensures { result ≡ worse fault (Some Memory) }
+    ensures { result ≡ worse_of fault (Some Memory) }
 {
     if rank_of(&Some(Fault::Memory)) <= rank_of(&fault) {
         fault

@@ -3,12 +3,12 @@
 ghost use Rattle.std.specs.Prelude.{◌≡◌, ◌+◌, ◌-◌, length, map};
 ghost use Rattle.command_core.specs.Seen.{NetSeen, net_of, output_of};
 ghost use Rattle.share_crew.specs.Listeners.{AreNew};
-ghost use Rattle.relay_command.specs.Places.{HasOpened, IsGivenBack};
+ghost use Rattle.relay_command.specs.Places.{HasOpened, HasClosedUnused};
 ghost use Rattle.relay_command.specs.Runs.{HasNoShare, RelayEnds};
 ghost use Rattle.relay_command.specs.Terms.{MayRelay};
 
-use crate::opening::{Places, begin, opened};
-use crate::running::relay_begun;
+use crate::opening::{Places, begin, open_addresses};
+use crate::running::relay_locked;
 use crate::terms::Relaying;
 use command_core::write_error;
 use outside_net::{Net, Sink};
@@ -36,25 +36,25 @@ pub fn relay<W: Sink, N: Net, R: Threads + Wait + Clock + Sync>(
         result }
     ensures open_stays { N.open_count net.new ≡ N.open_count net.old }
 {
-    match opened(net, relaying) {
+    match open_addresses(net, relaying) {
         Ok(places) => match begin(alloc, relaying, output) {
-            Ok(begun) => relay_begun(rt, alloc, relaying, output, net, places, begun),
+            Ok(begun) => relay_locked(rt, alloc, relaying, output, net, places, begun),
             Err(status) => {
-                given_back(net, places);
-                unrelayed(alloc, status)
+                close_unused(net, places);
+                no_share(alloc, status)
             }
         },
-        Err(stop) => unrelayed(alloc, write_error(alloc, output, &stop).status),
+        Err(stop) => no_share(alloc, write_error(alloc, output, &stop).status),
     }
 }
 
 // Closes the listeners, at which no worker has accepted, and the connection.
-fn given_back<N: Net>(net: &mut N, places: Places<N::L, N::D>)
+fn close_unused<N: Net>(net: &mut N, places: Places<N::L, N::D>)
     ensures back { (start : NetSeen) (relaying : Relaying)
         → HasOpened relaying start (net_of N.Net net.old)
         (N.L.taken places.link) (N.L.left places.link) (N.L.faults places.link) (map N.D.coming places.listeners.items)
         → AreNew N.D.written N.D.faults start.written places.listeners.items
-        → IsGivenBack relaying start
+        → HasClosedUnused relaying start
         (net_of N.Net net.new) }
     ensures closes { N.open_count net.new
         ≡ N.open_count net.old - (length places.listeners.items + 1) }
@@ -64,7 +64,7 @@ fn given_back<N: Net>(net: &mut N, places: Places<N::L, N::D>)
 }
 
 // Returns the outcome if no share was put under a lock.
-fn unrelayed(alloc: Global, status: u8) -> Outcome
+fn no_share(alloc: Global, status: u8) -> Outcome
     ensures status { result.status ≡ status }
     ensures none { HasNoShare result }
 {

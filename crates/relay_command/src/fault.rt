@@ -1,7 +1,7 @@
 //! Errors of `relay`, and which of two counts more.
 
 ghost use Rattle.std.specs.Prelude.{◌≡◌, IfOk};
-ghost use Rattle.relay_command.specs.Faults.{relay_line, relay_status, net_fault, crew_fault, end_fault, rank_of, worse};
+ghost use Rattle.relay_command.specs.Faults.{relay_line, relay_status, net_fault, crew_fault, end_fault, rank_of, worse_of};
 
 use command_core::{Fault, Refusal};
 use fault_lines::push_number;
@@ -27,9 +27,9 @@ pub enum RelayFault {
 }
 
 impl Refusal for RelayFault {
-    ghost told_line = { relay_line };
+    ghost error_line = { relay_line };
 
-    ghost told_status = { relay_status };
+    ghost error_status = { relay_status };
 
     fn line(&self, alloc: Global) -> Result<Vec<u8>, AllocError> {
         match self {
@@ -71,8 +71,8 @@ pub(crate) fn net_fault(error: NetError) -> Fault<RelayFault>
 }
 
 /// Returns the error of workers and a relay that have ended: the one that counts more, and of two alike the workers'.
-pub(crate) fn ruling(verdict: Verdict, end: RelayEnd) -> Option<Fault<RelayFault>>
-    ensures { result ≡ worse (crew_fault verdict) (end_fault end) }
+pub(crate) fn worse_fault(verdict: Verdict, end: RelayEnd) -> Option<Fault<RelayFault>>
+    ensures { result ≡ worse_of (crew_fault verdict) (end_fault end) }
 {
     let crew = crew_fault(verdict);
     let relay = end_fault(end);

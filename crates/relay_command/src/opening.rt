@@ -16,7 +16,7 @@ use command_core::{Fault, out_of_memory};
 use item_model::{Batch, Edits};
 use outside_net::{Failed, Net, Sink};
 use share_core::Share;
-use share_crew::{LockedShare, WorkerBuffers, announced};
+use share_crew::{LockedShare, WorkerBuffers, write_and_lock};
 use std::alloc::{AllocError, Global};
 
 /// The connection to the followed share, and the listeners of the relay, before their first use.
@@ -28,7 +28,7 @@ pub(crate) struct Places<K, D> {
 
 /// Connects to the share that is followed, and then opens the address of the players. If that fails, closes the
 /// connection.
-pub(crate) fn opened<N: Net>(
+pub(crate) fn open_addresses<N: Net>(
     net: &mut N,
     relaying: &Relaying,
 ) -> Result<Places<N::L, N::D>, Fault<RelayFault>>
@@ -81,7 +81,7 @@ pub(crate) fn begin<W: Sink, D: Drop>(
         (output_of W.Sink output.new)) }
 {
     match prepare(alloc, relaying) {
-        Ok(Prepared { share, line, room }) => announced(
+        Ok(Prepared { share, line, room }) => write_and_lock(
             alloc,
             output,
             line.as_slice(),

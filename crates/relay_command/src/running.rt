@@ -5,7 +5,7 @@ ghost use Rattle.command_core.specs.Seen.{NetSeen, OutputSeen, net_of, output_of
 ghost use Rattle.command_core.specs.Endings.{IsWritten};
 ghost use Rattle.share_lock.specs.Known.{fresh};
 ghost use Rattle.share_lock.specs.Passes.{lock_id, known, passes_of, IsReady};
-ghost use Rattle.share_crew.specs.Crews.{IsHired};
+ghost use Rattle.share_crew.specs.Crews.{IsNewWorker};
 ghost use Rattle.share_crew.specs.Listeners.{AreNew};
 ghost use Rattle.relay_command.specs.Begun.{HasBegun};
 ghost use Rattle.relay_command.specs.Places.{HasOpened};
@@ -13,7 +13,7 @@ ghost use Rattle.relay_command.specs.Runs.{HasServed};
 ghost use Rattle.relay_command.specs.Terms.{MayRelay};
 
 use crate::closing::finish;
-use crate::fault::ruling;
+use crate::fault::worse_fault;
 use crate::opening::Places;
 use crate::relayer::Relayer;
 use crate::terms::Relaying;
@@ -31,7 +31,7 @@ use std::thread::Threads;
 use std::time::Clock;
 
 /// Serves the players of a share that is under its lock, and relays another share to it, until all have ended.
-pub(crate) fn relay_begun<W: Sink, N: Net, R: Threads + Wait + Clock + Sync>(
+pub(crate) fn relay_locked<W: Sink, N: Net, R: Threads + Wait + Clock + Sync>(
     rt: &R,
     alloc: Global,
     relaying: &Relaying,
@@ -94,7 +94,7 @@ pub(crate) fn relay_begun<W: Sink, N: Net, R: Threads + Wait + Clock + Sync>(
         share,
         links,
         rounds.as_slice(),
-        ruling(verdict, end),
+        worse_fault(verdict, end),
     )
 }
 
@@ -113,7 +113,7 @@ fn assign_workers<D: Drop, R: Wait>(
     ensures lock { lock_id result.0.lock ≡ lock_id begun.lock }
     ensures ready { IsReady (lock_id result.0.lock) result.0.first }
     ensures pass { known result.0.first ≡ known begun.first }
-    ensures hired { All (IsHired (lock_id result.0.lock) (known result.0.first))
+    ensures hired { All (IsNewWorker (lock_id result.0.lock) (known result.0.first))
         result.0.room.crew.items }
     ensures roles { map (λ w. w.role) result.0.room.crew.items
         ≡ map (λ w. Role.Listen) result.0.room.crew.items }

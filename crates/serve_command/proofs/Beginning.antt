@@ -9,13 +9,13 @@ use Rattle.share_replies.specs.Answers.{Shared}
 use Rattle.share_replies.specs.Laws.{maker}
 use Rattle.share_core.specs.Opened.{opened_with}
 use Rattle.share_lock.specs.Known.{fresh}
-use Rattle.command_core.specs.Answers.{Tells}
+use Rattle.command_core.specs.Answers.{Writes}
 use Rattle.command_core.specs.Endings.{IsWritten, IsCut}
 use Rattle.command_core.specs.Faults.{memory_line}
 use Rattle.command_core.specs.Seen.{OutputSeen}
 use Rattle.share_crew.specs.declared.opening.LockedShare.{LockedShare}
 use Rattle.share_crew.specs.declared.opening.WorkerBuffers.{WorkerBuffers}
-use Rattle.share_crew.specs.Begun.{HasRoom, Announces}
+use Rattle.share_crew.specs.Begun.{HasRoom, WritesAndLocks}
 use Rattle.serve_command.specs.declared.terms.Serving.{Serving}
 use Rattle.serve_command.specs.Runs.{first_line, NotAnnounced}
 use Rattle.serve_command.specs.Begun.{HasBegun}
@@ -34,7 +34,7 @@ module _ {D : Type 0} where
   -- it is under its lock after its line was written
   pub begins : (serving : Serving) (output output' : OutputSeen) (share : Shared) (room : WorkerBuffers D) (line : List ℕ) (result : Result (LockedShare D) ℕ)
       → share.settings ≡ settings_of serving → HasRoom (workers_of serving) room → line ≡ first_line serving share.history
-      → Announces (workers_of serving + 1) share room line output output' result
+      → WritesAndLocks (workers_of serving + 1) share room line output output' result
       → MatchResult result (HasBegun serving share.history output output') (NotAnnounced (first_line serving share.history) output output')
   begins serving output output' share room line (Ok begun) settings fits told h =
       record {
@@ -45,6 +45,6 @@ module _ {D : Type 0} where
       }
   begins serving output output' share room line (Err status) settings fits told h = not_begun h
     where
-      not_begun : ((status ≡ 5) × IsCut output output' line) ⊎ Tells 9 (line ++ memory_line) output output' status → NotAnnounced (first_line serving share.history) output output' status
+      not_begun : ((status ≡ 5) × IsCut output output' line) ⊎ Writes 9 (line ++ memory_line) output output' status → NotAnnounced (first_line serving share.history) output output' status
       not_begun (inl c) = inr (inl (c.0, subst (IsCut output output') told c.1))
-      not_begun (inr t) = inr (inr (subst (λ l. Tells 9 (l ++ memory_line) output output' status) told t))
+      not_begun (inr t) = inr (inr (subst (λ l. Writes 9 (l ++ memory_line) output output' status) told t))

@@ -28,7 +28,7 @@ use Rattle.kept_library.specs.Opening.{CountsFault, StandsAt, StopsOpening, byte
 use Rattle.command_core.proofs.Reading.{read_whole}
 use Rattle.command_core.specs.declared.fault.Fault.{Fault}
 use Rattle.command_core.specs.declared.fault.Fault.TheVariants as fault
-use Rattle.command_core.specs.Answers.{Tells}
+use Rattle.command_core.specs.Answers.{Writes}
 use Rattle.command_core.specs.Faults.{memory_line}
 use Rattle.command_core.specs.Seen.{FilesSeen, InputSeen, OutputSeen}
 use Rattle.command_core.specs.ReadRecords.{records_limit, HasReadAs, IsRefused, LeavesMany, ReadsAs}
@@ -38,26 +38,26 @@ use Rattle.serve_command.specs.declared.terms.Serving.{Serving}
 use Rattle.share_crew.specs.declared.verdict.Verdict.{Verdict}
 use Rattle.share_crew.specs.declared.verdict.Verdict.TheVariants.{Done, NetworkFailed, FileFailed, OutOfMemory, Exhausted}
 use Rattle.share_crew.specs.Lines.{ended_line}
-use Rattle.share_crew.specs.Listeners.{CountsShut}
-use Rattle.share_crew.specs.Stints.{Stint}
+use Rattle.share_crew.specs.Listeners.{CountsListenerFaults}
+use Rattle.share_crew.specs.WorkerRuns.{WorkerRun}
 use Rattle.share_crew.specs.Verdicts.{end_number, has_end, verdict_of, verdict_status, with_memory}
 use Rattle.share_crew.proofs.Numbers.{contains_head, contains_tail}
 use Rattle.serve_command.specs.Faults.{StopsServing}
 use Rattle.serve_command.specs.Files.{AreKept}
 use Rattle.serve_command.specs.Laws.{IsOpened, IsSpent, RunsAreDecided, StandsForShare}
-use Rattle.serve_command.specs.Runs.{first_line, NotAnnounced, TellsFault, TellsStop, TellsEnd, NotBegun, stopped, unkept, unannounced, unopened, unbegun, served}
+use Rattle.serve_command.specs.Runs.{first_line, NotAnnounced, WritesErrorLine, WritesStop, WritesEnd, NotBegun, stopped, unkept, unannounced, unopened, unbegun, served}
 use Rattle.serve_command.specs.Terms.{settings_of}
 
 -- what was written whole has its status
-told_as : (wanted : ℕ) (bytes : List ℕ) (before after : OutputSeen) (status : ℕ) → ¬ (Rose before.faults after.faults) → Tells wanted bytes before after status → status ≡ wanted
+told_as : (wanted : ℕ) (bytes : List ℕ) (before after : OutputSeen) (status : ℕ) → ¬ (Rose before.faults after.faults) → Writes wanted bytes before after status → status ≡ wanted
 told_as wanted bytes before after status steady (inl h) = h.0
 told_as wanted bytes before after status steady (inr h) = absurd (steady h.1.rose)
 
-wants : (stop : Fault ServeFault) (before after : OutputSeen) (status : ℕ) → ¬ (Rose before.faults after.faults) → stop ≡ fault.Memory → TellsStop stop before after status → status ≡ 9
+wants : (stop : Fault ServeFault) (before after : OutputSeen) (status : ℕ) → ¬ (Rose before.faults after.faults) → stop ≡ fault.Memory → WritesStop stop before after status → status ≡ 9
 wants stop before after status steady is (inr h) = told_as 9 memory_line before after status steady h
-wants stop before after status steady is (inl h) = memory_told (subst (λ (s : Fault ServeFault). TellsStop s before after status) is (inl h))
+wants stop before after status steady is (inl h) = memory_told (subst (λ (s : Fault ServeFault). WritesStop s before after status) is (inl h))
   where
-    memory_told : TellsStop fault.Memory before after status → status ≡ 9
+    memory_told : WritesStop fault.Memory before after status → status ≡ 9
     memory_told (inl t) = told_as 9 memory_line before after status steady t
     memory_told (inr t) = told_as 9 memory_line before after status steady t
 
@@ -108,10 +108,10 @@ not_kept_out files files' path first (fault.Own file.TooManyLists) stands calm s
 not_kept_out files files' path first fault.Read stands calm stops counts = absurd stops
 not_kept_out files files' path first fault.Memory stands calm stops counts = refl
 
-file_wants : (stop : Fault FileFault) (before after : OutputSeen) (status : ℕ) → ¬ (Rose before.faults after.faults) → stop ≡ fault.Memory → TellsFault file_line file_status stop before after status → status ≡ 9
-file_wants stop before after status steady is tells = memory_told (subst (λ (s : Fault FileFault). TellsFault file_line file_status s before after status) is tells)
+file_wants : (stop : Fault FileFault) (before after : OutputSeen) (status : ℕ) → ¬ (Rose before.faults after.faults) → stop ≡ fault.Memory → WritesErrorLine file_line file_status stop before after status → status ≡ 9
+file_wants stop before after status steady is tells = memory_told (subst (λ (s : Fault FileFault). WritesErrorLine file_line file_status s before after status) is tells)
   where
-    memory_told : TellsFault file_line file_status fault.Memory before after status → status ≡ 9
+    memory_told : WritesErrorLine file_line file_status fault.Memory before after status → status ≡ 9
     memory_told (inl t) = told_as 9 memory_line before after status steady t
     memory_told (inr t) = told_as 9 memory_line before after status steady t
 
@@ -147,27 +147,27 @@ spent_here worker.Memory is = absurd (cc)
 spent_here worker.FileFault is = absurd (cc)
 
 module _ {settings : Settings} {opened : List Entry} where
-  spent_stint : (stint : Stint settings opened) → stint.end ≡ worker.Spent → (length stint.reports ≡ 65536) ⊎ (length (all_served stint.reports) ≡ 262144)
-  spent_stint stint is =
-      let ends = subst (λ e. EndsWorker (record { settings = settings; number = stint.pass.number; taken_in = []; seen = opened; looks = []; is_over = false }) stint.pass stint.to_come stint.left stint.reports e) is stint.served.ends in
+  spent_worker_run : (worker_run : WorkerRun settings opened) → worker_run.end ≡ worker.Spent → (length worker_run.reports ≡ 65536) ⊎ (length (all_served worker_run.reports) ≡ 262144)
+  spent_worker_run worker_run is =
+      let ends = subst (λ e. EndsWorker (record { settings = settings; number = worker_run.pass.number; taken_in = []; seen = opened; looks = []; is_over = false }) worker_run.pass worker_run.to_come worker_run.left worker_run.reports e) is worker_run.served.ends in
       ends.2
 
-  spent_at : (stint : Stint settings opened) (stints : List (Stint settings opened)) (b : Bool) → nat_eq (end_number stint.end) 3 ≡ b
-      → (has_end worker.Spent (map (λ (s : Stint settings opened). s.end) stints) ≡ true → IsSpent (map (λ (s : Stint settings opened). s.reports) stints))
-      → (b || has_end worker.Spent (map (λ (s : Stint settings opened). s.end) stints)) ≡ true → IsSpent (stint.reports ∷ map (λ (s : Stint settings opened). s.reports) stints)
-  spent_at stint stints true is rest some =
-      record { reports = stint.reports; stands = contains_head stint.reports (map (λ (s : Stint settings opened). s.reports) stints); most = spent_stint stint (spent_here stint.end is) }
-  spent_at stint stints false is rest some =
+  spent_at : (worker_run : WorkerRun settings opened) (worker_runs : List (WorkerRun settings opened)) (b : Bool) → nat_eq (end_number worker_run.end) 3 ≡ b
+      → (has_end worker.Spent (map (λ (s : WorkerRun settings opened). s.end) worker_runs) ≡ true → IsSpent (map (λ (s : WorkerRun settings opened). s.reports) worker_runs))
+      → (b || has_end worker.Spent (map (λ (s : WorkerRun settings opened). s.end) worker_runs)) ≡ true → IsSpent (worker_run.reports ∷ map (λ (s : WorkerRun settings opened). s.reports) worker_runs)
+  spent_at worker_run worker_runs true is rest some =
+      record { reports = worker_run.reports; stands = contains_head worker_run.reports (map (λ (s : WorkerRun settings opened). s.reports) worker_runs); most = spent_worker_run worker_run (spent_here worker_run.end is) }
+  spent_at worker_run worker_runs false is rest some =
       let r = rest some in
-      record { reports = r.reports; stands = contains_tail r.reports stint.reports (map (λ (s : Stint settings opened). s.reports) stints) r.stands; most = r.most }
+      record { reports = r.reports; stands = contains_tail r.reports worker_run.reports (map (λ (s : WorkerRun settings opened). s.reports) worker_runs) r.stands; most = r.most }
 
-  some_spent : (stints : List (Stint settings opened)) → has_end worker.Spent (map (λ (s : Stint settings opened). s.end) stints) ≡ true → IsSpent (map (λ (s : Stint settings opened). s.reports) stints)
+  some_spent : (worker_runs : List (WorkerRun settings opened)) → has_end worker.Spent (map (λ (s : WorkerRun settings opened). s.end) worker_runs) ≡ true → IsSpent (map (λ (s : WorkerRun settings opened). s.reports) worker_runs)
   some_spent [] some = absurd (cc)
-  some_spent (stint ∷ stints) some = spent_at stint stints (nat_eq (end_number stint.end) 3) refl (some_spent stints) some
+  some_spent (worker_run ∷ worker_runs) some = spent_at worker_run worker_runs (nat_eq (end_number worker_run.end) 3) refl (some_spent worker_runs) some
 
 -- the status by the workers' ends, if neither the network nor a file failed
 by_ends : (ends : List WorkerEnd) (links : List (List LinkReport)) (before after : ℕ) (network file memory spent : Bool) → has_end worker.AcceptFault ends ≡ network → has_end worker.FileFault ends ≡ file
-    → has_end worker.Memory ends ≡ memory → has_end worker.Spent ends ≡ spent → ¬ (Rose before after) → CountsShut before after ends → (has_end worker.FileFault ends ≡ true → ⊥)
+    → has_end worker.Memory ends ≡ memory → has_end worker.Spent ends ≡ spent → ¬ (Rose before after) → CountsListenerFaults before after ends → (has_end worker.FileFault ends ≡ true → ⊥)
     → (has_end worker.Spent ends ≡ true → IsSpent links)
     → (verdict : Verdict) → verdict ≡ cond network NetworkFailed (cond file FileFailed (cond memory OutOfMemory (cond spent Exhausted Done))) → (status : ℕ)
     → (status ≡ verdict_status verdict) ⊎ (status ≡ verdict_status (with_memory verdict)) → (status ≡ 0) ⊎ ((status ≡ 9) ⊎ ((status ≡ 8) × IsSpent links))
@@ -181,7 +181,7 @@ by_ends ends links before after false false false true n f m s steady counts sou
 by_ends ends links before after false false false false n f m s steady counts sound some verdict is status (inl said) = inl (said ∙ ap verdict_status is)
 by_ends ends links before after false false false false n f m s steady counts sound some verdict is status (inr said) = inr (inl (said ∙ ap (λ v. verdict_status (with_memory v)) is))
 
-end_said : (ended : List ℕ) (verdict : Verdict) (before after : OutputSeen) (status : ℕ) → ¬ (Rose before.faults after.faults) → TellsEnd ended verdict before after status
+end_said : (ended : List ℕ) (verdict : Verdict) (before after : OutputSeen) (status : ℕ) → ¬ (Rose before.faults after.faults) → WritesEnd ended verdict before after status
     → (status ≡ verdict_status verdict) ⊎ (status ≡ verdict_status (with_memory verdict))
 end_said ended verdict before after status steady (inl h) = inl (told_as (verdict_status verdict) _ before after status steady h)
 end_said ended verdict before after status steady (inr h) = inr (told_as (verdict_status (with_memory verdict)) _ before after status steady h)
@@ -201,7 +201,7 @@ runs_are_decided serving told left input first (unopened stop fails unread same 
 runs_are_decided serving told left input first (unbegun asked faults not none) known reads is steady whole calm sound =
     inr (inl (not_begun serving told.before.input told.after.input told.before.around.files told.after.around.files told.output_before told.output_after left.status input first known reads is steady whole sound not))
 runs_are_decided serving told left input first (served edits opened read opening_is run) known reads is steady whole calm sound =
-    let ends = map (λ (s : Stint (settings_of serving) opened). s.end) run.crew in
+    let ends = map (λ (s : WorkerRun (settings_of serving) opened). s.end) run.crew in
     by_ends ends left.links told.before.around.net.faults told.after.around.net.faults (has_end worker.AcceptFault ends) (has_end worker.FileFault ends) (has_end worker.Memory ends) (has_end worker.Spent ends) refl refl refl refl calm run.counts
     (none_lost serving.file told.before.around.files told.after.around.files run.history (has_end worker.FileFault ends) sound run.kept_so)
     (λ some. subst IsSpent (sym run.links) (some_spent run.crew some)) (verdict_of ends) refl left.status (end_said (ended_line (revision (batches run.history)) left.links) (verdict_of ends) run.at_line told.output_after left.status

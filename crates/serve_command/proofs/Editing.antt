@@ -12,12 +12,12 @@ use Rattle.share_server.specs.Kept.{Keeping}
 use Rattle.share_server.specs.Passes.{Pass}
 use Rattle.share_workers.specs.Keepers.{KeepsBut}
 use Rattle.share_workers.proofs.Keepers.{keeps_history}
-use Rattle.share_crew.specs.Stints.{Stint, IsHistoryOf, IsPart, numbers_of_all, passes_in}
+use Rattle.share_crew.specs.WorkerRuns.{WorkerRun, IsHistoryOf, IsPart, numbers_of_all, passes_in}
 use Rattle.share_crew.proofs.Numbers.{head_or_tail}
 use Rattle.share_crew.proofs.Players.{ArePlayers, IsQuiet, by_another, each_at, quiet_players}
 
 module _ {settings : Settings} {opened : List Entry} where
-  by_editor : (e : Entry) (players : List (Stint settings opened)) (editor : Stint settings opened) → is_edit e ≡ true → AllByRecursion (λ s. IsQuiet s.pass.number e) players
+  by_editor : (e : Entry) (players : List (WorkerRun settings opened)) (editor : WorkerRun settings opened) → is_edit e ≡ true → AllByRecursion (λ s. IsQuiet s.pass.number e) players
       → Contains (numbers_of_all (passes_in (players ++ editor ∷ []) ++ [])) (maker e) → maker e ≡ editor.pass.number
   by_editor e players editor is quiet has = at (head_or_tail (maker e) editor.pass.number [] (by_another e players (editor ∷ []) [] is quiet has))
     where
@@ -26,7 +26,7 @@ module _ {settings : Settings} {opened : List Entry} where
       at (inr none) = let h = none.1 in absurd (omega arith)
 
   -- if one worker edits and the others serve players, its keeper has the batches of the history
-  pub editor_keeps : (history : List Entry) (players : List (Stint settings opened)) (editor : Stint settings opened) (most : ℕ) (k : Pass)
+  pub editor_keeps : (history : List Entry) (players : List (WorkerRun settings opened)) (editor : WorkerRun settings opened) (most : ℕ) (k : Pass)
       (keeps keeps' : List (List Edit) → Type 0) (is_lost' : Bool) (faults faults' : ℕ) (loses : Bool)
       → ArePlayers players → All (λ e. maker e ≡ 0) opened → IsHistoryOf most history (players ++ editor ∷ []) [] → IsPart history editor
       → k.seen ≡ opened → Keeping keeps keeps' is_lost' faults faults' k editor.pass loses → keeps (batches opened) → KeepsBut loses keeps' (batches history)

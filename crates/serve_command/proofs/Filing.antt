@@ -12,13 +12,13 @@ use Rattle.kept_library.specs.Faults.{file_line, file_status}
 use Rattle.kept_library.specs.Opening.{CountsFault}
 use Rattle.command_core.specs.declared.fault.Fault.{Fault}
 use Rattle.command_core.specs.declared.fault.Fault.TheVariants as fault
-use Rattle.command_core.specs.Answers.{Tells}
+use Rattle.command_core.specs.Answers.{Writes}
 use Rattle.command_core.specs.Faults.{fault_status}
 use Rattle.command_core.specs.Seen.{FilesSeen, InputSeen, OutputSeen}
 use Rattle.share_crew.specs.declared.verdict.Verdict.{Verdict}
 use Rattle.share_crew.specs.declared.verdict.Verdict.TheVariants.{Done, NetworkFailed, FileFailed, OutOfMemory, Exhausted}
 use Rattle.share_crew.specs.Lines.{ended_line}
-use Rattle.share_crew.specs.Stints.{Stint}
+use Rattle.share_crew.specs.WorkerRuns.{WorkerRun}
 use Rattle.share_crew.specs.Verdicts.{has_end, verdict_of, verdict_status, with_memory}
 use Rattle.share_crew.proofs.Ending.{none_failed}
 use Rattle.serve_command.specs.declared.fault.ServeFault.{ServeFault}
@@ -27,20 +27,20 @@ use Rattle.serve_command.specs.declared.terms.Serving.{Serving}
 use Rattle.serve_command.specs.Faults.{serve_status}
 use Rattle.serve_command.specs.Files.{AreKept, IsKept, LeavesBut}
 use Rattle.serve_command.specs.Laws.{FileFaultsAreCounted, SuccessLeavesTheFile}
-use Rattle.serve_command.specs.Runs.{first_line, NotAnnounced, NotBegun, TellsEnd, TellsFault, TellsStop, served, stopped, unannounced, unbegun, unkept, unopened}
+use Rattle.serve_command.specs.Runs.{first_line, NotAnnounced, NotBegun, WritesEnd, WritesErrorLine, WritesStop, served, stopped, unannounced, unbegun, unkept, unopened}
 use Rattle.serve_command.specs.Terms.{settings_of}
 use Rattle.serve_command.proofs.Ending.{done_from}
 
 -- the status is the intended one, or that of an output that failed
-told_status : (wanted : ℕ) (bytes : List ℕ) (before after : OutputSeen) (status : ℕ) → Tells wanted bytes before after status → (status ≡ wanted) ⊎ (status ≡ 5)
-told_status wanted bytes before after status (inl h) = inl h.0
-told_status wanted bytes before after status (inr h) = inr h.0
+error_status : (wanted : ℕ) (bytes : List ℕ) (before after : OutputSeen) (status : ℕ) → Writes wanted bytes before after status → (status ≡ wanted) ⊎ (status ≡ 5)
+error_status wanted bytes before after status (inl h) = inl h.0
+error_status wanted bytes before after status (inr h) = inr h.0
 
 -- the statuses before a share is served are between 3 and 9, unless a file failed
 abbrev IsBetween : ℕ → Type 0
 IsBetween status = (3 ≤ status) × (status ≤ 9)
 
-between_told : (wanted : ℕ) (bytes : List ℕ) (before after : OutputSeen) (status : ℕ) → IsBetween wanted → Tells wanted bytes before after status → IsBetween status
+between_told : (wanted : ℕ) (bytes : List ℕ) (before after : OutputSeen) (status : ℕ) → IsBetween wanted → Writes wanted bytes before after status → IsBetween status
 between_told wanted bytes before after status within (inl h) = (subst (λ n. 3 ≤ n) (sym h.0) within.0, subst (λ n. n ≤ 9) (sym h.0) within.1)
 between_told wanted bytes before after status within (inr h) = (omega (arith, h.0), omega (arith, h.0))
 
@@ -55,7 +55,7 @@ serve_between (fault.Own TooManyLists) = (omega arith, omega arith)
 serve_between fault.Read = (omega arith, omega arith)
 serve_between fault.Memory = (omega arith, omega arith)
 
-stop_between : (stop : Fault ServeFault) (before after : OutputSeen) (status : ℕ) → TellsStop stop before after status → IsBetween status
+stop_between : (stop : Fault ServeFault) (before after : OutputSeen) (status : ℕ) → WritesStop stop before after status → IsBetween status
 stop_between stop before after status (inl t) = between_told (fault_status serve_status stop) _ before after status (serve_between stop) t
 stop_between stop before after status (inr t) = between_told 9 _ before after status between_nine t
 
@@ -81,13 +81,13 @@ file_ten (fault.Own file.TooManyLists) before after counts is = absurd (let e : 
 file_ten fault.Read before after counts is = absurd (let e : 4 ≡ 10 = is in omega arith)
 file_ten fault.Memory before after counts is = absurd (let e : 9 ≡ 10 = is in omega arith)
 
-some_status : (stop : Fault FileFault) (before after : OutputSeen) (status : ℕ) → TellsFault file_line file_status stop before after status → 3 ≤ status
+some_status : (stop : Fault FileFault) (before after : OutputSeen) (status : ℕ) → WritesErrorLine file_line file_status stop before after status → 3 ≤ status
 some_status stop before after status (inl (inl h)) = subst (λ n. 3 ≤ n) (sym h.0) (file_some stop)
 some_status stop before after status (inl (inr h)) = omega (arith, h.0)
 some_status stop before after status (inr (inl h)) = omega (arith, h.0)
 some_status stop before after status (inr (inr h)) = omega (arith, h.0)
 
-ten_status : (stop : Fault FileFault) (before after : OutputSeen) (status : ℕ) (n n' : ℕ) → CountsFault n n' stop → TellsFault file_line file_status stop before after status → status ≡ 10 → Rose n n'
+ten_status : (stop : Fault FileFault) (before after : OutputSeen) (status : ℕ) (n n' : ℕ) → CountsFault n n' stop → WritesErrorLine file_line file_status stop before after status → status ≡ 10 → Rose n n'
 ten_status stop before after status n n' counts (inl (inl h)) ten = file_ten stop n n' counts (sym h.0 ∙ ten)
 ten_status stop before after status n n' counts (inl (inr h)) ten = absurd (omega (arith, h.0, ten))
 ten_status stop before after status n n' counts (inr (inl h)) ten = absurd (omega (arith, h.0, ten))
@@ -121,7 +121,7 @@ success_leaves_the_file serving path told left (unopened stop fails unread same 
 success_leaves_the_file serving path told left (unbegun asked faults not none) success named =
     let some = not_begun_some serving told.before.input told.after.input told.before.around.files told.after.around.files told.output_before told.output_after left.status not in absurd (omega (arith, some, success))
 success_leaves_the_file serving path told left (served edits opened read is run) success named =
-    let ends = map (λ (s : Stint (settings_of serving) opened). s.end) run.crew in
+    let ends = map (λ (s : WorkerRun (settings_of serving) opened). s.end) run.crew in
     let done : verdict_of ends ≡ Done = done_from (ended_line (revision (batches run.history)) left.links) (verdict_of ends) run.at_line told.output_after left.status success run.told in
     let none : has_end worker.FileFault ends ≡ false = none_lost_if_done ends done in
     let kept = left_so serving.file path told.before.around.files told.after.around.files run.history (has_end worker.FileFault ends) named run.kept_so in record {
@@ -146,7 +146,7 @@ ten_with_memory FileFailed is = refl
 ten_with_memory OutOfMemory is = absurd (let e : 10 ≡ 9 = is in omega arith)
 ten_with_memory Exhausted is = absurd (let e : 10 ≡ 9 = is in omega arith)
 
-lost_from : (ended : List ℕ) (verdict : Verdict) (before after : OutputSeen) (status : ℕ) → status ≡ 10 → TellsEnd ended verdict before after status → verdict ≡ FileFailed
+lost_from : (ended : List ℕ) (verdict : Verdict) (before after : OutputSeen) (status : ℕ) → status ≡ 10 → WritesEnd ended verdict before after status → verdict ≡ FileFailed
 lost_from ended verdict before after status is (inl (inl h)) = ten_by verdict (sym is ∙ h.0)
 lost_from ended verdict before after status is (inl (inr h)) = absurd (omega (arith, is, h.0))
 lost_from ended verdict before after status is (inr (inl h)) = ten_with_memory verdict (sym is ∙ h.0)
@@ -170,7 +170,7 @@ file_faults_are_counted serving told left (unopened stop fails unread same tells
 file_faults_are_counted serving told left (unbegun asked faults not none) ten =
     not_begun_ten serving told.before.input told.after.input told.before.around.files told.after.around.files told.output_before told.output_after left.status not ten
 file_faults_are_counted serving told left (served edits opened read is run) ten =
-    let ends = map (λ (s : Stint (settings_of serving) opened). s.end) run.crew in
+    let ends = map (λ (s : WorkerRun (settings_of serving) opened). s.end) run.crew in
     let failed = lost_from (ended_line (revision (batches run.history)) left.links) (verdict_of ends) run.at_line told.output_after left.status ten run.told in
     rose_by serving.file told.before.around.files told.after.around.files run.history (has_end worker.FileFault ends)
     (lost_by ends (has_end worker.AcceptFault ends) (has_end worker.FileFault ends) (has_end worker.Memory ends) (has_end worker.Spent ends) refl failed) run.kept_so

@@ -34,16 +34,16 @@ use Rattle.kept_library.specs.declared.fault.FileFault.{FileFault}
 use Rattle.kept_library.specs.declared.fault.FileFault.TheVariants as file
 use Rattle.command_core.specs.declared.fault.Fault.{Fault}
 use Rattle.command_core.specs.declared.fault.Fault.TheVariants as fault
-use Rattle.command_core.specs.Seen.{FilesSeen, Told}
+use Rattle.command_core.specs.Seen.{FilesSeen, Run}
 use Rattle.command_core.specs.ReadRecords.{HasReadAs}
-use Rattle.share_crew.specs.Stints.{Stint, IsHistoryOf, IsPart}
+use Rattle.share_crew.specs.WorkerRuns.{WorkerRun, IsHistoryOf, IsPart}
 use Rattle.share_crew.specs.Verdicts.{has_end}
 use Rattle.share_crew.proofs.Joining.{all_parts}
 use Rattle.share_crew.proofs.Players.{ArePlayers, players_lose_nothing}
 use Rattle.serve_command.specs.declared.terms.Serving.{Serving}
 use Rattle.serve_command.specs.Files.{AreKept, IsKept, IsOpening, LeavesBut}
-use Rattle.serve_command.specs.Laws.{AcknowledgedBatchesStay, HasAcknowledged, HasUnder, KeepsAll, acknowledged}
-use Rattle.serve_command.specs.Runs.{HasNoShare, HasServed, Left, NotBegun, first_line, served, stopped, unannounced, unbegun, unkept, unopened}
+use Rattle.serve_command.specs.Laws.{AcknowledgedBatchesStay, HasAcknowledged, HasUnder, KeepsAll, acknowledged_batches}
+use Rattle.serve_command.specs.Runs.{HasNoShare, HasServed, ServeOutcome, NotBegun, first_line, served, stopped, unannounced, unbegun, unkept, unopened}
 use Rattle.serve_command.specs.Terms.{settings_of, workers_of}
 use Rattle.serve_command.proofs.Beginning.{opened_made}
 use Rattle.serve_command.proofs.Editing.{editor_keeps}
@@ -94,7 +94,7 @@ refused_input path c now stood edits (fault.Own file.TooManyLists) stands stops 
 refused_input path c now stood edits fault.Read stands stops left = absurd stops
 refused_input path c now stood edits fault.Memory stands stops left = inl (under_put path c now stood (left stood stands))
 
-module _ (path : List ℕ) (told : Told) (left : Left) (stood : List (List Edit)) (none : HasNoShare left) where
+module _ (path : List ℕ) (told : Run) (left : ServeOutcome) (stood : List (List Edit)) (none : HasNoShare left) where
   none_served : (more : List (List Edit)) (history : List Entry) → left.history ≡ Some history → HasAcknowledged told stood history left.links more
   none_served more history is = absurd (let bad : None ≡ Some history = sym none.history ∙ is in cc)
 
@@ -131,8 +131,8 @@ counted false = refl
 
 module _ {settings : Settings} {opened : List Entry} where
   -- all edits after the opening are those that the editor's requests added, except for one that was lost
-  editor_batches : (history : List Entry) (players : List (Stint settings opened)) (editor : Stint settings opened) (most : ℕ) → ArePlayers players → All (λ e. maker e ≡ 0) opened
-      → IsHistoryOf most history (players ++ editor ∷ []) [] → KeepsBut (is_worker_loss editor.end) (λ bs. bs ≡ batches opened ++ acknowledged history editor.reports) (batches history)
+  editor_batches : (history : List Entry) (players : List (WorkerRun settings opened)) (editor : WorkerRun settings opened) (most : ℕ) → ArePlayers players → All (λ e. maker e ≡ 0) opened
+      → IsHistoryOf most history (players ++ editor ∷ []) [] → KeepsBut (is_worker_loss editor.end) (λ bs. bs ≡ batches opened ++ acknowledged_batches history editor.reports) (batches history)
   editor_batches history players editor most are first one =
       let part : IsPart history editor = (all_parts (IsPart history) players editor one.parts).1 in
       let k : Pass = fresh editor.pass.number settings opened in
@@ -142,7 +142,7 @@ module _ {settings : Settings} {opened : List Entry} where
       let same : added_entries history requests ≡ added_entries editor.pass.seen requests =
       ap (λ h. added_entries h requests) part.begins ∙ (stays settings editor.pass.number 0 editor.pass.seen part.later 0 works.asks requests works.serves.are_served).entries in
       let keeps : List (List Edit) → Type 0 = λ bs. bs ≡ batches opened in
-      let keeps' : List (List Edit) → Type 0 = λ bs. bs ≡ batches opened ++ acknowledged history editor.reports in
+      let keeps' : List (List Edit) → Type 0 = λ bs. bs ≡ batches opened ++ acknowledged_batches history editor.reports in
       let did : Keeping keeps keeps' loses 0 (count_of loses) k editor.pass loses = record {
         number = refl;
         made = added_entries editor.pass.seen requests;
@@ -157,14 +157,14 @@ module _ {settings : Settings} {opened : List Entry} where
       (editor_keeps history players editor most k keeps keeps' loses 0 (count_of loses) loses are first one part refl did refl)
 
 -- the workers of players come first
-record Editor {settings : Settings} {opened : List Entry} (crew : List (Stint settings opened)) : Type 0 where
-  players : List (Stint settings opened)
-  editor : Stint settings opened
+record Editor {settings : Settings} {opened : List Entry} (crew : List (WorkerRun settings opened)) : Type 0 where
+  players : List (WorkerRun settings opened)
+  editor : WorkerRun settings opened
   are : crew ≡ players ++ editor ∷ []
   listen : ArePlayers players
 
 module _ {settings : Settings} {opened : List Entry} where
-  last_editor : (count : ℕ) (crew : List (Stint settings opened)) → map (λ (s : Stint settings opened). s.role) crew ≡ replicate count role.Listen ++ role.Edit ∷ [] → Editor crew
+  last_editor : (count : ℕ) (crew : List (WorkerRun settings opened)) → map (λ (s : WorkerRun settings opened). s.role) crew ≡ replicate count role.Listen ++ role.Edit ∷ [] → Editor crew
   last_editor count [] is = absurd (let same = ap length is in let more = length-append (replicate count role.Listen) (role.Edit ∷ []) in omega (arith, same, more))
   last_editor zero (s ∷ []) is = record { players = []; editor = s; are = refl; listen = tt }
   last_editor zero (s ∷ t ∷ crew) is = absurd (let same = ap length is in omega (arith, same))
@@ -177,7 +177,7 @@ module _ {settings : Settings} {opened : List Entry} where
         listen = ((listens, players_lose_nothing s listens), rest.listen);
       }
 
-  all_whole : (players : List (Stint settings opened)) → ArePlayers players → AllByRecursion (λ s. is_worker_loss s.end ≡ false) players
+  all_whole : (players : List (WorkerRun settings opened)) → ArePlayers players → AllByRecursion (λ s. is_worker_loss s.end ≡ false) players
   all_whole [] are = tt
   all_whole (s ∷ players) are = (are.0.1, all_whole players are.1)
 
@@ -226,7 +226,7 @@ made_so : (lost : Bool) (all front : List (List Edit)) → KeepsBut lost (λ bs.
 made_so false all front is = record { lost = []; few = omega arith; are = is ∙ sym (append-nil front) }
 made_so true all front is = record { lost = is.1 ∷ []; few = omega arith; are = is.2 ∙ ap (λ bs. bs ++ is.1 ∷ []) is.3 }
 
-module _ (serving : Serving) (path : List ℕ) (told : Told) (left : Left) (c : Contents) (stood : List (List Edit)) (named : serving.file ≡ Some path) (single : serving.editors ≡ 1)
+module _ (serving : Serving) (path : List ℕ) (told : Run) (left : ServeOutcome) (c : Contents) (stood : List (List Edit)) (named : serving.file ≡ Some path) (single : serving.editors ≡ 1)
     (known : told.before.around.files.contents ≡ Some c) (stands : FileStands (bytes_at c path) stood) where
   -- what the share began with
   began : (edits : List Edit) (opened : List Entry) → IsOpening serving.file told.before.around.files.contents edits opened
@@ -269,35 +269,35 @@ module _ (serving : Serving) (path : List ℕ) (told : Told) (left : Left) (c : 
   keeps_all edits opened read is run =
       let start = began edits opened is in
       let one : Editor run.crew = last_editor serving.workers run.crew (run.roles ∙ ap (λ n. replicate serving.workers role.Listen ++ replicate n role.Edit) single) in
-      let ends : List (Stint (settings_of serving) opened) → Bool = λ crew. has_end worker.FileFault (map (λ (s : Stint (settings_of serving) opened). s.end) crew) in
+      let ends : List (WorkerRun (settings_of serving) opened) → Bool = λ crew. has_end worker.FileFault (map (λ (s : WorkerRun (settings_of serving) opened). s.end) crew) in
       let lost : ends run.crew ≡ is_worker_loss one.editor.end = ap ends one.are ∙ last_lost one.players one.editor (all_whole one.players one.listen) in
       let kept : AreKept serving.file told.before.around.files told.after.around.files run.history (is_worker_loss one.editor.end) =
       subst (λ b. AreKept serving.file told.before.around.files told.after.around.files run.history b) lost run.kept_so in
       let made : All (λ e. maker e ≡ 0) opened = subst (All (λ e. maker e ≡ 0)) (sym start.0) (opened_made (stood ++ if_filled edits)) in
       let all = editor_batches run.history one.players one.editor (workers_of serving) one.listen made (subst (λ crew. IsHistoryOf (workers_of serving) run.history crew []) one.are run.one) in
-      let at = ended (is_worker_loss one.editor.end) path c told.after.around.files.contents (batches run.history) (batches opened ++ acknowledged run.history one.editor.reports)
+      let at = ended (is_worker_loss one.editor.end) path c told.after.around.files.contents (batches run.history) (batches opened ++ acknowledged_batches run.history one.editor.reports)
       told.before.around.files.faults told.after.around.files.faults all (kept_at run.history (is_worker_loss one.editor.end) kept) (counts_at run.history (is_worker_loss one.editor.end) kept) in
-      let made_all = made_so (is_worker_loss one.editor.end) (batches run.history) (batches opened ++ acknowledged run.history one.editor.reports) all in
+      let made_all = made_so (is_worker_loss one.editor.end) (batches run.history) (batches opened ++ acknowledged_batches run.history one.editor.reports) all in
       let shape : (more : List (List Edit))
-      → (batches opened ++ acknowledged run.history one.editor.reports) ++ more ≡ stood ++ (if_filled edits ++ (acknowledged run.history one.editor.reports ++ more)) =
+      → (batches opened ++ acknowledged_batches run.history one.editor.reports) ++ more ≡ stood ++ (if_filled edits ++ (acknowledged_batches run.history one.editor.reports ++ more)) =
       λ more.
-      ap (λ bs. (bs ++ acknowledged run.history one.editor.reports) ++ more) start.1
-      ∙ append_assoc (stood ++ if_filled edits) (acknowledged run.history one.editor.reports) more
-      ∙ append_assoc stood (if_filled edits) (acknowledged run.history one.editor.reports ++ more) in
+      ap (λ bs. (bs ++ acknowledged_batches run.history one.editor.reports) ++ more) start.1
+      ∙ append_assoc (stood ++ if_filled edits) (acknowledged_batches run.history one.editor.reports) more
+      ∙ append_assoc stood (if_filled edits) (acknowledged_batches run.history one.editor.reports ++ more) in
       record {
-        more = if_filled edits ++ (acknowledged run.history one.editor.reports ++ at.last);
+        more = if_filled edits ++ (acknowledged_batches run.history one.editor.reports ++ at.last);
         under = subst (HasUnder path told.after.around.files.contents) (shape at.last) at.under;
         unserved = λ none. absurd (let bad : None ≡ Some run.history = sym none ∙ run.history_is in cc);
         served = λ history known_as.
             let same : run.history ≡ history = let both : Some run.history ≡ Some history = sym run.history_is ∙ known_as in cc in
-            subst (λ h. HasAcknowledged told stood h left.links (if_filled edits ++ (acknowledged run.history one.editor.reports ++ at.last))) same (record {
+            subst (λ h. HasAcknowledged told stood h left.links (if_filled edits ++ (acknowledged_batches run.history one.editor.reports ++ at.last))) same (record {
               edits = edits;
               read = read;
-              players = map (λ (s : Stint (settings_of serving) opened). s.reports) one.players;
+              players = map (λ (s : WorkerRun (settings_of serving) opened). s.reports) one.players;
               editor = one.editor.reports;
               links_are = run.links
-                  ∙ ap (λ crew. map (λ (s : Stint (settings_of serving) opened). s.reports) crew) one.are
-                  ∙ map-append (λ (s : Stint (settings_of serving) opened). s.reports) one.players (one.editor ∷ []);
+                  ∙ ap (λ crew. map (λ (s : WorkerRun (settings_of serving) opened). s.reports) crew) one.are
+                  ∙ map-append (λ (s : WorkerRun (settings_of serving) opened). s.reports) one.players (one.editor ∷ []);
               last = at.last;
               are = refl;
               few = at.few;

@@ -1,6 +1,6 @@
 -- What an outcome of `serve` says.
 use Rattle.share_crew.specs.declared.outcome.Outcome.{Outcome}
-use Rattle.serve_command.specs.Runs.{Left}
+use Rattle.serve_command.specs.Runs.{ServeOutcome}
 
-abbrev pub left_of : Outcome → Left
-left_of outcome = record { status = outcome.status; history = outcome.history; links = outcome.links }
+abbrev pub outcome_of : Outcome → ServeOutcome
+outcome_of outcome = record { status = outcome.status; history = outcome.history; links = outcome.links }

@@ -76,7 +76,7 @@ pub record FailsToOpen (serving : Serving) (before after : NetSeen) (stop : Faul
   pub stops : StopsOpening before.faults after.faults stop
 
 -- listeners at which no worker has accepted were closed; the network is as it was after it opened them
-pub record IsGivenBack (start before after : NetSeen) : Type 0 where
+pub record HasClosedUnused (start before after : NetSeen) : Type 0 where
   pub asked : after.asked ≡ before.asked
   pub written : Grows start.written before.written [] → Grows start.written after.written []
   pub faultless : after.faults ≡ before.faults

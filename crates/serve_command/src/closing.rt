@@ -2,12 +2,12 @@
 
 ghost use Rattle.std.specs.Prelude.{◌<◌, ◌^◌, ◌++◌, MatchResult};
 ghost use Rattle.command_core.specs.Seen.{output_of};
-ghost use Rattle.command_core.specs.Answers.{Tells};
+ghost use Rattle.command_core.specs.Answers.{Writes};
 ghost use Rattle.share_history.specs.Histories.{batches, revision};
 ghost use Rattle.share_crew.specs.Outcomes.{LeavesShare};
 ghost use Rattle.share_crew.specs.Lines.{ended_line, links_in, requests_in};
 ghost use Rattle.share_crew.specs.Verdicts.{verdict_line, verdict_status, with_memory};
-ghost use Rattle.serve_command.specs.Runs.{TellsEnd};
+ghost use Rattle.serve_command.specs.Runs.{WritesEnd};
 
 use outside_net::{Sink, put_all};
 use share_core::Share;
@@ -25,7 +25,7 @@ pub(crate) fn finish<W: Sink>(
     requires links { links_in links < 2 ^ 64 }
     requires requests { requests_in links < 2 ^ 64 }
     ensures left { LeavesShare share.history links result }
-    ensures told { TellsEnd (ended_line (revision (batches share.history)) links) verdict
+    ensures told { WritesEnd (ended_line (revision (batches share.history)) links) verdict
         (output_of W.Sink output.old)
         (output_of W.Sink output.new)
         result.status }
@@ -38,11 +38,11 @@ pub(crate) fn finish<W: Sink>(
 // Writes the line, and then that of the verdict. Returns the status.
 fn write_end<W: Sink>(output: &mut W, line: Result<Vec<u8>, AllocError>, verdict: Verdict) -> u8
     ensures { MatchResult line
-        (λ bytes. Tells (verdict_status verdict) (bytes.items ++ verdict_line verdict)
+        (λ bytes. Writes (verdict_status verdict) (bytes.items ++ verdict_line verdict)
         (output_of W.Sink output.old)
         (output_of W.Sink output.new)
         result)
-        (λ _. Tells (verdict_status (with_memory verdict)) (verdict_line (with_memory verdict))
+        (λ _. Writes (verdict_status (with_memory verdict)) (verdict_line (with_memory verdict))
         (output_of W.Sink output.old)
         (output_of W.Sink output.new)
         result) }
@@ -58,7 +58,7 @@ fn write_end<W: Sink>(output: &mut W, line: Result<Vec<u8>, AllocError>, verdict
 
 // Writes the line of a verdict. Returns the status.
 fn write_verdict<W: Sink>(output: &mut W, verdict: Verdict) -> u8
-    ensures { Tells (verdict_status verdict) (verdict_line verdict)
+    ensures { Writes (verdict_status verdict) (verdict_line verdict)
         (output_of W.Sink output.old)
         (output_of W.Sink output.new)
         result }

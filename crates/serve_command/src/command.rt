@@ -1,8 +1,8 @@
 //! The command `serve`.
 
 ghost use Rattle.std.specs.Prelude.{◌≡◌, None};
-ghost use Rattle.command_core.specs.Seen.{input_of, files_of, net_of, output_of, seen, told_in};
-ghost use Rattle.serve_command.specs.Outcomes.{left_of};
+ghost use Rattle.command_core.specs.Seen.{input_of, files_of, net_of, output_of, seen_of, run_of};
+ghost use Rattle.serve_command.specs.Outcomes.{outcome_of};
 ghost use Rattle.serve_command.specs.Runs.{ServeEnds};
 ghost use Rattle.serve_command.specs.Terms.{MayServe};
 
@@ -31,16 +31,16 @@ pub fn serve<I: Source, W: Sink, F: Files, N: Net, R: Threads + Wait + Clock + S
     net: &mut N,
 ) -> Outcome
     requires { MayServe serving.now }
-    ensures ends { ServeEnds serving.now (told_in
-        (seen (input_of I.Source input.old)
+    ensures ends { ServeEnds serving.now (run_of
+        (seen_of (input_of I.Source input.old)
         (files_of F.Files files.old)
         (net_of N.Net net.old))
-        (seen (input_of I.Source input.new)
+        (seen_of (input_of I.Source input.new)
         (files_of F.Files files.new)
         (net_of N.Net net.new))
         (output_of W.Sink output.old)
         (output_of W.Sink output.new))
-        (left_of result) }
+        (outcome_of result) }
     ensures alone { serving.now.file ≡ None → files.new ≡ files.old }
     ensures open_stays { N.open_count net.new ≡ N.open_count net.old }
 {

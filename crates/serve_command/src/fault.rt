@@ -25,9 +25,9 @@ pub enum ServeFault {
 }
 
 impl Refusal for ServeFault {
-    ghost told_line = { serve_line };
+    ghost error_line = { serve_line };
 
-    ghost told_status = { serve_status };
+    ghost error_status = { serve_status };
 
     fn line(&self, alloc: Global) -> Result<Vec<u8>, AllocError> {
         match self {

@@ -14,7 +14,7 @@ use command_core::out_of_memory;
 use fault_lines::push_number;
 use outside_net::Sink;
 use share_core::Share;
-use share_crew::{LockedShare, WorkerBuffers, announced};
+use share_crew::{LockedShare, WorkerBuffers, write_and_lock};
 use std::alloc::{AllocError, Global};
 
 /// Writes the first line of `share`, and puts it under a lock.
@@ -42,7 +42,7 @@ pub(crate) fn begin<W: Sink, D: Drop>(
 {
     let passes = serving.workers + serving.editors + 1;
     match prepare(alloc, serving, &share) {
-        Ok((line, room)) => announced(alloc, output, line.as_slice(), share, passes, room),
+        Ok((line, room)) => write_and_lock(alloc, output, line.as_slice(), share, passes, room),
         Err(AllocError) => Err(out_of_memory(output, None).status),
     }
 }

@@ -4,13 +4,13 @@ ghost use Rattle.std.specs.Prelude.{◌≡◌, ◌≤◌, ◌-◌, None, length,
 ghost use Rattle.item_model.specs.Valid.{AreValid};
 ghost use Rattle.records_import.specs.Limits.{most_records};
 ghost use Rattle.records_import.specs.Written.{IsReadable};
-ghost use Rattle.command_core.specs.Seen.{InputSeen, NetSeen, files_of, net_of, output_of, seen, told_in};
+ghost use Rattle.command_core.specs.Seen.{InputSeen, NetSeen, files_of, net_of, output_of, seen_of, run_of};
 ghost use Rattle.command_core.specs.ReadRecords.{HasReadAs};
 ghost use Rattle.edit_file.specs.Files.{HasBatches, faults_of, is_broken, place_of};
 ghost use Rattle.share_history.specs.Histories.{batches};
 ghost use Rattle.share_replies.specs.Laws.{maker};
 ghost use Rattle.serve_command.specs.KeptFiles.{IsKeptIn};
-ghost use Rattle.serve_command.specs.Outcomes.{left_of};
+ghost use Rattle.serve_command.specs.Outcomes.{outcome_of};
 ghost use Rattle.serve_command.specs.Places.{HasAddresses, MayServeWith, count_of};
 ghost use Rattle.serve_command.specs.Runs.{ServeEnds, ShareEnds};
 ghost use Rattle.serve_command.specs.Terms.{settings_of};
@@ -51,12 +51,12 @@ pub(crate) fn serve_records<W: Sink, F: Files, N: Net, R: Threads + Wait + Clock
     requires readable { IsReadable first }
     ensures ends { (before after : InputSeen) (start : NetSeen) → HasReadAs first before after
         → HasAddresses N.D.Listener serving.now start (net_of N.Net net.old) listeners
-        → ServeEnds serving.now (told_in
-        (seen before (files_of F.Files files.old) start)
-        (seen after (files_of F.Files files.new) (net_of N.Net net.new))
+        → ServeEnds serving.now (run_of
+        (seen_of before (files_of F.Files files.old) start)
+        (seen_of after (files_of F.Files files.new) (net_of N.Net net.new))
         (output_of W.Sink output.old)
         (output_of W.Sink output.new))
-        (left_of result) }
+        (outcome_of result) }
     ensures alone { serving.now.file ≡ None → files.new ≡ files.old }
     ensures closes { N.open_count net.new ≡ N.open_count net.old - count_of listeners }
 {
@@ -109,7 +109,7 @@ fn serve_kept<P: Placed, W: Sink, N: Net, D: Disk + Drop, R: Threads + Wait + Cl
         (IsKeptIn D.Disk.own P.place (faults_of D.Disk.own file) result.1)
         start (net_of N.Net net.new)
         (output_of W.Sink output.old)
-        (output_of W.Sink output.new) (left_of result.0) }
+        (output_of W.Sink output.new) (outcome_of result.0) }
     ensures closes { N.open_count net.new ≡ N.open_count net.old - count_of listeners }
 {
     let keeper = NamedFile {

@@ -9,7 +9,7 @@ ghost use Rattle.share_replies.specs.Laws.{maker};
 ghost use Rattle.share_crew.specs.Crews.{IsStaff};
 ghost use Rattle.serve_command.specs.Begun.{IsBegunWith};
 ghost use Rattle.serve_command.specs.Files.{KeepsHistory};
-ghost use Rattle.serve_command.specs.Outcomes.{left_of};
+ghost use Rattle.serve_command.specs.Outcomes.{outcome_of};
 ghost use Rattle.serve_command.specs.Places.{HasAddresses, MayServeWith, all_of, count_of, roles_at};
 ghost use Rattle.serve_command.specs.Runs.{HasServed, ShareEnds};
 ghost use Rattle.serve_command.specs.Terms.{settings_of};
@@ -24,7 +24,7 @@ use outside_net::{Net, Sink};
 use share_asks::Role;
 use share_core::Share;
 use share_crew::{
-    Gathered, LockedShare, Outcome, WorkerBuffers, add_workers, gather, keep_beside, share_of,
+    Gathered, LockedShare, Outcome, WorkerBuffers, add_workers, gather, run_with_editor, share_of,
 };
 use share_lock::Bell;
 use share_workers::Worker;
@@ -54,7 +54,7 @@ pub(crate) fn serve_share<W: Sink, N: Net, K: Keeps, R: Threads + Wait + Clock +
         (KeepsHistory K.Keeps serving.now.editors keeper result.1 share.history)
         start (net_of N.Net net.new)
         (output_of W.Sink output.old)
-        (output_of W.Sink output.new) (left_of result.0) }
+        (output_of W.Sink output.new) (outcome_of result.0) }
     ensures closes { N.open_count net.new ≡ N.open_count net.old - count_of listeners }
 {
     match begin(alloc, serving, output, share) {
@@ -92,12 +92,12 @@ fn serve_locked<W: Sink, N: Net, K: Keeps, R: Threads + Wait + Clock + Sync>(
         → HasServed serving opened
         (KeepsHistory K.Keeps serving.editors keeper result.1 opened) front
         start (net_of N.Net net.new)
-        before (output_of W.Sink output.new) (left_of result.0) }
+        before (output_of W.Sink output.new) (outcome_of result.0) }
     ensures closes { N.open_count net.new ≡ N.open_count net.old - count_of listeners }
 {
     let (mut begun, mut last) = assign_workers(rt, alloc, begun, listeners);
     let mut keeper = keeper;
-    keep_beside(
+    run_with_editor(
         rt,
         alloc,
         &begun.lock,

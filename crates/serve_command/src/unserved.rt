@@ -2,9 +2,9 @@
 
 ghost use Rattle.std.specs.Prelude.{◌≡◌, ◌-◌};
 ghost use Rattle.command_core.specs.Seen.{NetSeen, net_of, output_of};
-ghost use Rattle.serve_command.specs.Outcomes.{left_of};
-ghost use Rattle.serve_command.specs.Places.{AreUnused, IsGivenBack, count_of};
-ghost use Rattle.serve_command.specs.Runs.{HasNoShare, TellsFault};
+ghost use Rattle.serve_command.specs.Outcomes.{outcome_of};
+ghost use Rattle.serve_command.specs.Places.{AreUnused, HasClosedUnused, count_of};
+ghost use Rattle.serve_command.specs.Runs.{HasNoShare, WritesErrorLine};
 ghost use Rattle.serve_command.specs.Terms.{places_of};
 
 use crate::places::Listeners;
@@ -16,7 +16,7 @@ use std::alloc::Global;
 /// Returns the outcome if no share was put under a lock.
 pub(crate) fn no_share(alloc: Global, status: u8) -> Outcome
     ensures status { result.status ≡ status }
-    ensures none { HasNoShare (left_of result) }
+    ensures none { HasNoShare (outcome_of result) }
 {
     Outcome {
         status,
@@ -29,7 +29,7 @@ pub(crate) fn no_share(alloc: Global, status: u8) -> Outcome
 pub(crate) fn close_listeners<N: Net>(net: &mut N, listeners: Listeners<N::D>)
     ensures back { (start : NetSeen) → AreUnused N.D.Listener start listeners.listen.items
         → AreUnused N.D.Listener start listeners.edit.items
-        → IsGivenBack start (net_of N.Net net.old) (net_of N.Net net.new) }
+        → HasClosedUnused start (net_of N.Net net.old) (net_of N.Net net.new) }
     ensures closes { N.open_count net.new ≡ N.open_count net.old - count_of listeners }
 {
     close_all(net, listeners.listen);
@@ -44,14 +44,14 @@ pub(crate) fn refuse<W: Sink, N: Net, E: Refusal>(
     listeners: Listeners<N::D>,
     stop: &Fault<E>,
 ) -> Outcome
-    ensures told { TellsFault E.told_line E.told_status stop.now
+    ensures told { WritesErrorLine E.error_line E.error_status stop.now
         (output_of W.Sink output.old)
         (output_of W.Sink output.new)
         result.status }
-    ensures none { HasNoShare (left_of result) }
+    ensures none { HasNoShare (outcome_of result) }
     ensures back { (start : NetSeen) → AreUnused N.D.Listener start listeners.listen.items
         → AreUnused N.D.Listener start listeners.edit.items
-        → IsGivenBack start (net_of N.Net net.old) (net_of N.Net net.new) }
+        → HasClosedUnused start (net_of N.Net net.old) (net_of N.Net net.new) }
     ensures closes { N.open_count net.new ≡ N.open_count net.old - count_of listeners }
 {
     let status = write_error(alloc, output, stop).status;

@@ -15,7 +15,7 @@ use Rattle.song_query.proofs.Once.{answers_once}
 use Rattle.command_core.specs.declared.fault.Fault.{Fault}
 use Rattle.command_core.specs.declared.fault.Fault.TheVariants.{Own, Read, Memory}
 use Rattle.command_core.specs.Seen.{Seen, ShareSeen, IsUnread}
-use Rattle.command_core.specs.Causes.{Says}
+use Rattle.command_core.specs.Causes.{HasCause}
 use Rattle.command_core.specs.Meanings.{IsCause}
 use Rattle.command_core.proofs.Reading.{read_whole}
 use Rattle.command_core.proofs.Sensible.{WritesOnce}
@@ -46,7 +46,7 @@ meta_is_read query meta asked refused = let read = asked.1.meta in let many = re
 
 -- an input that is too long has no other error
 long_only : (query meta : Option (List ℕ)) (target : Target) (input : List ℕ) (own : ListFault) → IsAsked query meta → records_limit < length input
-    → Says (list_cause query meta target own) input → list_status own ≡ 8
+    → HasCause (list_cause query meta target own) input → list_status own ≡ 8
 long_only query meta target input (query_fault error) asked long says = absurd (query_is_read query meta error asked says.0 says.1)
 long_only query meta target input Meta asked long says = absurd (meta_is_read query meta asked says)
 long_only query meta target input TooLong asked long says = refl
@@ -60,7 +60,7 @@ few_or_many_lists input edits others reads read few many =
     false≢true (sym many ∙ ap (has_few_lists []) (batch_same (table_of input) others edits read.read reads.read) ∙ few)
 
 many_only : (query meta : Option (List ℕ)) (target : Target) (input : List ℕ) (own : ListFault) → IsAsked query meta → LeavesMany input
-    → Says (list_cause query meta target own) input → list_status own ≡ 8
+    → HasCause (list_cause query meta target own) input → list_status own ≡ 8
 many_only query meta target input (query_fault error) asked many says = absurd (query_is_read query meta error asked says.0 says.1)
 many_only query meta target input Meta asked many says = absurd (meta_is_read query meta asked says)
 many_only query meta target input TooLong asked many says = refl
@@ -69,15 +69,15 @@ many_only query meta target input TooManyLists asked many says = refl
 many_only query meta target input NoList asked many says =
     let lacks = says.1 in absurd (few_or_many_lists input lacks.edits many.edits lacks.reads many.reads lacks.few many.many)
 
-one_list_status : (query meta : Option (List ℕ)) (target : Target) (input : List ℕ) (one other : ListFault) → Says (list_cause query meta target one) input
-    → Says (list_cause query meta target other) input → list_status one ≡ list_status other
+one_list_status : (query meta : Option (List ℕ)) (target : Target) (input : List ℕ) (one other : ListFault) → HasCause (list_cause query meta target one) input
+    → HasCause (list_cause query meta target other) input → list_status one ≡ list_status other
 one_list_status query meta target input TooLong other says said = sym (long_only query meta target input other says.0 says.1 said)
 one_list_status query meta target input TooManyLists other says said = sym (many_only query meta target input other says.0 says.1 said)
 one_list_status query meta target input one TooLong says said = long_only query meta target input one said.0 said.1 says
 one_list_status query meta target input one TooManyLists says said = many_only query meta target input one said.0 said.1 says
 one_list_status query meta target input one other _ _ = refl
 
-no_list_fault : (query meta : Option (List ℕ)) (target : Target) (input : List ℕ) (own : ListFault) → Says (list_cause query meta target own) input → IsListable query meta target input → ⊥
+no_list_fault : (query meta : Option (List ℕ)) (target : Target) (input : List ℕ) (own : ListFault) → HasCause (list_cause query meta target own) input → IsListable query meta target input → ⊥
 no_list_fault query meta target input (query_fault error) says listable = query_is_read query meta error listable.asked says.0 says.1
 no_list_fault query meta target input Meta says listable = meta_is_read query meta listable.asked says
 no_list_fault query meta target input TooLong says listable = let within = listable.of.reads.within in let long = says.1 in absurd (omega arith)
@@ -137,7 +137,7 @@ untouched number batches size keep before after Memory cause = cause
 one_rehearse_status : (one other : RehearseFault) → rehearse_status one ≡ rehearse_status other
 one_rehearse_status TooMany TooMany = refl
 
-few_or_many : (batches size : ℕ) (input : List ℕ) (own : RehearseFault) → Says (rehearse_cause batches size own) input → batches * size ≤ most_edits → ⊥
+few_or_many : (batches size : ℕ) (input : List ℕ) (own : RehearseFault) → HasCause (rehearse_cause batches size own) input → batches * size ≤ most_edits → ⊥
 few_or_many batches size input TooMany says within = omega (arith, within, says)
 
 -- what another error leaves of a share, out of memory may leave too

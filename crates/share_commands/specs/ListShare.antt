@@ -19,7 +19,7 @@ use Rattle.fault_lines.specs.Records.{records_line}
 use Rattle.command_core.specs.declared.fault.Fault.{Fault}
 use Rattle.command_core.specs.declared.fault.Fault.TheVariants as fault
 use Rattle.command_core.specs.declared.outcome.Outcome.{Outcome}
-use Rattle.command_core.specs.Answers.{TellsDone, TellsMemory}
+use Rattle.command_core.specs.Answers.{WritesDone, WritesMemory}
 use Rattle.command_core.specs.Seen.{InputSeen, OutputSeen, Seen, ShareSeen, no_share, share_with}
 use Rattle.command_core.specs.Causes.{Cause, OfWords, OfInput, StopsBy}
 use Rattle.command_core.specs.Meanings.{Meaning, writes_nothing_before, may_read, says_no_more}
@@ -65,9 +65,9 @@ pub record IsListed (query meta : Option (List ℕ)) (target : Target) (before a
   pub written : output ≡ listing_bytes edits target look
 
 -- how `list` ends once a share is open: it writes the listing or the line of out of memory; the outcome has the history
-abbrev pub TellsListed : (history : List Entry) → (listing : List ℕ) → OutputSeen → OutputSeen → Outcome → Type 0
-TellsListed history listing before after outcome =
-    TellsDone (Some history) listing before after outcome ⊎ TellsMemory (Some history) before after outcome
+abbrev pub WritesListing : (history : List Entry) → (listing : List ℕ) → OutputSeen → OutputSeen → Outcome → Type 0
+WritesListing history listing before after outcome =
+    WritesDone (Some history) listing before after outcome ⊎ WritesMemory (Some history) before after outcome
 
 -- an error leaves no share; if an allocation fails for the listing, the share may be open
 abbrev pub ListLeaves : Target → Seen → Seen → Fault ListFault → ShareSeen → Type 0

@@ -8,7 +8,7 @@ use Rattle.command_core.specs.declared.fault.Fault.{Fault}
 use Rattle.command_core.specs.declared.fault.Fault.TheVariants.{Own, Read, Memory}
 use Rattle.share_commands.specs.declared.list.ListFault.{ListFault}
 use Rattle.share_commands.specs.declared.list.ListFault.TheVariants.{Query, Meta, TooLong, Records, TooManyLists, NoList}
-use Rattle.share_commands.specs.Looks.{IsQueryRefused, meta_asked}
+use Rattle.share_commands.specs.Looks.{IsQueryRefused, meta_or_default}
 
 abbrev pub IsQueryFault : Option (List ℕ) → Fault ListFault → Type 0
 IsQueryFault text (Own (Query error)) = IsQueryRefused text error
@@ -22,7 +22,7 @@ IsQueryFault text Memory = Unit {0}
 
 abbrev pub IsMetaFault : Option (List ℕ) → Fault ListFault → Type 0
 IsMetaFault text (Own (Query error)) = ⊥
-IsMetaFault text (Own Meta) = meta_asked text ≡ None
+IsMetaFault text (Own Meta) = meta_or_default text ≡ None
 IsMetaFault text (Own TooLong) = ⊥
 IsMetaFault text (Own (Records error)) = ⊥
 IsMetaFault text (Own TooManyLists) = ⊥

@@ -18,14 +18,14 @@ AsksQuery (Some text) None = ⊥
 AsksQuery (Some text) (Some query) = Answers text (Ok query)
 
 -- the properties that a text names; without a text, the default ones
-abbrev pub meta_asked : Option (List ℕ) → Option Meta
-meta_asked None = Some Default
-meta_asked (Some text) = meta_of text
+abbrev pub meta_or_default : Option (List ℕ) → Option Meta
+meta_or_default None = Some Default
+meta_or_default (Some text) = meta_of text
 
 -- the texts are read as this look, at all rows
 pub record AsksLook (query_text meta_text : Option (List ℕ)) (look : Look) : Type 0 where
   pub query : AsksQuery query_text look.query
-  pub meta : meta_asked meta_text ≡ Some look.meta
+  pub meta : meta_or_default meta_text ≡ Some look.meta
   pub base : look.base ≡ 0
   pub range : look.range ≡ All
 
@@ -46,4 +46,4 @@ pub record IsQueryRefused (query : Option (List ℕ)) (error : QueryError) : Typ
 pub record IsMetaRefused (query meta : Option (List ℕ)) : Type 0 where
   pub asked : Option Query
   pub read : AsksQuery query asked
-  pub many : meta_asked meta ≡ None
+  pub many : meta_or_default meta ≡ None

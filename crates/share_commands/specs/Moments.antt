@@ -7,7 +7,7 @@ use Rattle.share_replies.specs.Settings.{Settings}
 use Rattle.share_replay.specs.Machine.{script_bytes, script_history}
 use Rattle.share_replay.specs.Played.{IsBrokenOff}
 use Rattle.share_replay.specs.declared.delivery.Delivery.{Delivery}
-use Rattle.command_core.specs.Answers.{Tells}
+use Rattle.command_core.specs.Answers.{Writes}
 use Rattle.command_core.specs.Endings.{IsCut, IsWritten}
 use Rattle.command_core.specs.Faults.{memory_line}
 use Rattle.command_core.specs.Seen.{InputSeen, OutputSeen}
@@ -31,7 +31,7 @@ pub record EndsWanting (s : Settings) (lines : List Delivery) (before after : Ou
   pub moment : IsBrokenOff s [] lines history before.taken mid.taken
   pub front : AppendsPrefix before.taken mid.taken (script_bytes s [] lines)
   pub faultless : mid.faults ≡ before.faults
-  pub line : Tells 9 memory_line mid after status
+  pub line : Writes 9 memory_line mid after status
 
 -- a replay of these lines to a new share ended in one of these ways
 abbrev pub EndsPlay : Settings → List Delivery → OutputSeen → OutputSeen → (status : ℕ) → (history : List Entry) → Type 0

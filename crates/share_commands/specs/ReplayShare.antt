@@ -11,8 +11,8 @@ use Rattle.share_replay.specs.declared.delivery.Delivery.{Delivery}
 use Rattle.command_core.specs.declared.fault.Fault.{Fault}
 use Rattle.command_core.specs.declared.fault.Fault.TheVariants as fault
 use Rattle.command_core.specs.declared.outcome.Outcome.{Outcome}
-use Rattle.command_core.specs.Answers.{TellsFault}
-use Rattle.command_core.specs.Seen.{InputSeen, Seen, ShareSeen, Told, no_share, share_with}
+use Rattle.command_core.specs.Answers.{WritesError}
+use Rattle.command_core.specs.Seen.{InputSeen, Seen, ShareSeen, Run, no_share, share_with}
 use Rattle.command_core.specs.Causes.{Cause, OfInput}
 use Rattle.command_core.specs.Meanings.{Meaning, may_read}
 use Rattle.share_commands.specs.Moments.{IsOfOneMoment}
@@ -92,9 +92,9 @@ pub record IsScript (input : List ℕ) : Type 0 where
   pub reads : ReadsAs lines input
 
 -- What is left is of one moment of the replay. If no share was opened, only the line of an error was written.
-abbrev pub LeavesMoment : Settings → Told → Outcome → (history : Option (List Entry)) → Type 0
+abbrev pub LeavesMoment : Settings → Run → Outcome → (history : Option (List Entry)) → Type 0
 LeavesMoment s told outcome history =
-    MatchOption history ((fault : Fault ReplayFault) × TellsFault replay_line replay_status fault told.output_before told.output_after outcome)
+    MatchOption history ((fault : Fault ReplayFault) × WritesError replay_line replay_status fault told.output_before told.output_after outcome)
     (λ h. IsOfOneMoment s told.before.input told.after.input told.output_before told.output_after outcome.status h)
 
 abbrev pub replay_meaning : (keep : ℕ) → (name : List ℕ) → Meaning

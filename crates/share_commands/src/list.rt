@@ -3,10 +3,10 @@
 ghost use Rattle.std.specs.Prelude.{◌≡◌, ◌≤◌, List, length, Some, option_copied, IfOk, IfErr};
 ghost use Rattle.item_model.specs.declared.changes.Edit.{Edit};
 ghost use Rattle.listing_plan.specs.Plans.{plan_bytes, IsWritable};
-ghost use Rattle.command_core.specs.Seen.{Around, input_of, output_of, told_beside, share_with};
-ghost use Rattle.command_core.specs.Answers.{TellsDone};
+ghost use Rattle.command_core.specs.Seen.{Around, input_of, output_of, run_over_streams, share_with};
+ghost use Rattle.command_core.specs.Answers.{WritesDone};
 ghost use Rattle.command_core.specs.Endings.{IsAnswered};
-ghost use Rattle.share_commands.specs.ListShare.{listing_bytes, IsOpened, StopsOpening, TellsListed, list_line, list_status, input_fault, library_fault, list_meaning};
+ghost use Rattle.share_commands.specs.ListShare.{listing_bytes, IsOpened, StopsOpening, WritesListing, list_line, list_status, input_fault, library_fault, list_meaning};
 ghost use Rattle.share_commands.specs.Openings.{HasOpened};
 
 use crate::look::look_of;
@@ -40,9 +40,9 @@ pub enum ListFault {
 }
 
 impl Refusal for ListFault {
-    ghost told_line = { list_line };
+    ghost error_line = { list_line };
 
-    ghost told_status = { list_status };
+    ghost error_status = { list_status };
 
     fn line(&self, alloc: Global) -> Result<Vec<u8>, AllocError> {
         match self {
@@ -75,7 +75,7 @@ pub fn list_share<I: Source, W: Sink>(
 ) -> Outcome
     ensures { (around : Around)
         → IsAnswered (list_meaning (option_copied query.entry) (option_copied meta.entry) target)
-        (told_beside around
+        (run_over_streams around
         (input_of I.Source input.old)
         (input_of I.Source input.new)
         (output_of W.Sink output.old)
@@ -158,7 +158,7 @@ fn write_listed<W: Sink>(
     requires { (edits : List Edit) × HasOpened edits opened × (length edits ≤ 65536) }
     ensures history { result.history ≡ Some opened.history }
     ensures told { (edits : List Edit) → HasOpened edits opened
-        → TellsListed opened.history (listing_bytes edits target look)
+        → WritesListing opened.history (listing_bytes edits target look)
         (output_of W.Sink output.old)
         (output_of W.Sink output.new)
         result }
@@ -187,7 +187,7 @@ fn plan_listing(
 /// Writes `listing`.
 fn write_listing<W: Sink>(output: &mut W, listing: &Plan, history: Entries) -> Outcome
     requires { IsWritable listing.now }
-    ensures { TellsDone (Some history) (plan_bytes listing.now)
+    ensures { WritesDone (Some history) (plan_bytes listing.now)
         (output_of W.Sink output.old)
         (output_of W.Sink output.new)
         result }

@@ -1,7 +1,7 @@
 //! Reads the arguments of `list` that say what it shows.
 
 ghost use Rattle.std.specs.Prelude.{◌≡◌, Some, option_copied, IfOk, IfErr};
-ghost use Rattle.share_commands.specs.Looks.{AsksQuery, AsksLook, meta_asked};
+ghost use Rattle.share_commands.specs.Looks.{AsksQuery, AsksLook, meta_or_default};
 ghost use Rattle.share_commands.specs.LookFaults.{IsQueryFault, IsMetaFault, query_fault, meta_fault};
 ghost use Rattle.share_commands.specs.ListShare.{StopsBeforeReading};
 
@@ -53,7 +53,7 @@ fn query_fault(error: QueryError) -> Fault<ListFault>
 }
 
 fn meta_of(alloc: Global, text: Option<&Text>) -> Result<Meta, Fault<ListFault>>
-    ensures read { IfOk result (λ meta. meta_asked (option_copied text.entry) ≡ Some meta) }
+    ensures read { IfOk result (λ meta. meta_or_default (option_copied text.entry) ≡ Some meta) }
     ensures refused { IfErr result (λ fault. IsMetaFault (option_copied text.entry) fault) }
 {
     let Some(text) = text else {

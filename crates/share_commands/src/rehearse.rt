@@ -1,7 +1,7 @@
 //! The command `rehearse`: edits a share with made-up batches while mirrors follow it, and writes a summary.
 
 ghost use Rattle.std.specs.Prelude.{◌≡◌, ◌≤◌};
-ghost use Rattle.command_core.specs.Seen.{Around, InputSeen, output_of, told_beside};
+ghost use Rattle.command_core.specs.Seen.{Around, InputSeen, output_of, run_over_streams};
 ghost use Rattle.command_core.specs.Endings.{IsAnswered, share_of};
 ghost use Rattle.share_commands.specs.RehearseShare.{rehearse_line, rehearse_status, MayRehearse, OpensWithin, rehearse_meaning};
 
@@ -19,9 +19,9 @@ pub enum RehearseFault {
 }
 
 impl Refusal for RehearseFault {
-    ghost told_line = { rehearse_line };
+    ghost error_line = { rehearse_line };
 
-    ghost told_status = { rehearse_status };
+    ghost error_status = { rehearse_status };
 
     fn line(&self, alloc: Global) -> Result<Vec<u8>, AllocError> {
         Vec::from_slice(alloc, b"limit: rehearsal\n")
@@ -45,7 +45,7 @@ pub fn rehearse_share<W: Sink>(
     requires { MayRehearse number batches size keep }
     ensures answered { (around : Around) (input : InputSeen)
         → IsAnswered (rehearse_meaning number batches size keep)
-        (told_beside around input input
+        (run_over_streams around input input
         (output_of W.Sink output.old)
         (output_of W.Sink output.new))
         result }

@@ -5,7 +5,7 @@ ghost use Rattle.item_model.specs.Limits.{text_limit};
 ghost use Rattle.item_model.specs.declared.changes.Entry.{Entry};
 ghost use Rattle.command_core.specs.Causes.{StopsBy};
 ghost use Rattle.command_core.specs.Endings.{IsAnswered};
-ghost use Rattle.command_core.specs.Seen.{Around, input_of, output_of, told_beside};
+ghost use Rattle.command_core.specs.Seen.{Around, input_of, output_of, run_over_streams};
 ghost use Rattle.share_commands.specs.Moments.{EndsPlay};
 ghost use Rattle.share_commands.specs.ReadScript.{IsRead};
 ghost use Rattle.share_commands.specs.ReplayShare.{ReplayReadsOn, new_share, replay_cause, replay_line, replay_meaning, replay_status};
@@ -31,9 +31,9 @@ pub enum ReplayFault {
 }
 
 impl Refusal for ReplayFault {
-    ghost told_line = { replay_line };
+    ghost error_line = { replay_line };
 
-    ghost told_status = { replay_status };
+    ghost error_status = { replay_status };
 
     fn line(&self, alloc: Global) -> Result<Vec<u8>, AllocError> {
         match self {
@@ -73,7 +73,7 @@ pub fn replay_script<I: Source, W: Sink>(
     requires window { keep ≤ 65536 }
     requires short { length name.now ≤ text_limit }
     ensures { (around : Around) → IsAnswered (replay_meaning keep name.now)
-        (told_beside around
+        (run_over_streams around
         (input_of I.Source input.old)
         (input_of I.Source input.new)
         (output_of W.Sink output.old)

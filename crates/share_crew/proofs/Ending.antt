@@ -12,7 +12,7 @@ use Rattle.share_workers.specs.declared.worker.WorkerEnd.TheVariants as worker
 use Rattle.share_workers.specs.Works.{Came, IsOver}
 use Rattle.share_workers.specs.Ends.{EndsWorker}
 use Rattle.share_crew.specs.declared.verdict.Verdict.TheVariants.{Done, NetworkFailed, FileFailed, OutOfMemory, Exhausted}
-use Rattle.share_crew.specs.Stints.{Stint, IsPart, IsWhole, AreAll}
+use Rattle.share_crew.specs.WorkerRuns.{WorkerRun, IsPart, IsWhole, AreAllInputs}
 use Rattle.share_crew.specs.Verdicts.{end_number, has_end, verdict_of}
 
 -- then no worker ended because its listener failed, an allocation failed, or it reached a limit
@@ -33,7 +33,7 @@ none_failed ends false false false false n f m s is = record { network = n; file
 stopped_longer : (seen later history : List Entry) → history ≡ seen ++ later → is_stopped seen ≡ true → is_stopped history ≡ true
 stopped_longer seen later history is stopped = ap is_stopped is ∙ (list_any-append is_stop seen later ∙ ap (λ (b : Bool). b || list_any is_stop later) stopped)
 
-all_came : (to_come left : Option (List (List ℕ))) (inputs : List (List ℕ)) → IsOver to_come left → Came to_come left inputs → AreAll to_come inputs
+all_came : (to_come left : Option (List (List ℕ))) (inputs : List (List ℕ)) → IsOver to_come left → Came to_come left inputs → AreAllInputs to_come inputs
 all_came None left inputs over came = tt
 all_came (Some to_come) None inputs over came = absurd came
 all_came (Some to_come) (Some rest) inputs over came = came ∙ (ap (λ l. inputs ++ l) (some_is rest [] over) ∙ append-nil inputs)
@@ -46,39 +46,39 @@ all_came (Some to_come) (Some rest) inputs over came = came ∙ (ap (λ l. input
         of (Some zs) = zs
 
 module _ {settings : Settings} {opening : List Entry} where
-  whole_as : (history : List Entry) (stint : Stint settings opening) (end : WorkerEnd) → IsPart history stint
-      → EndsWorker (record { settings = settings; number = stint.pass.number; taken_in = []; seen = opening; looks = []; is_over = false }) stint.pass stint.to_come stint.left stint.reports end
-      → NoneFailed (end ∷ []) → IsWhole history stint
-  whole_as history stint worker.Running part ends none = absurd ends
-  whole_as history stint worker.Stopped part ends none =
+  whole_as : (history : List Entry) (worker_run : WorkerRun settings opening) (end : WorkerEnd) → IsPart history worker_run
+      → EndsWorker (record { settings = settings; number = worker_run.pass.number; taken_in = []; seen = opening; looks = []; is_over = false }) worker_run.pass worker_run.to_come worker_run.left worker_run.reports end
+      → NoneFailed (end ∷ []) → IsWhole history worker_run
+  whole_as history worker_run worker.Running part ends none = absurd ends
+  whole_as history worker_run worker.Stopped part ends none =
       inr (
-        (λ is. let count : length stint.reports ≡ 0 = ap length is in let more = ap length ends.0.are ∙ length-append ends.0.earlier (ends.0.last ∷ []) in omega (arith, count, more)),
-        stopped_longer stint.pass.seen part.later history part.begins ends.1,
+        (λ is. let count : length worker_run.reports ≡ 0 = ap length is in let more = ap length ends.0.are ∙ length-append ends.0.earlier (ends.0.last ∷ []) in omega (arith, count, more)),
+        stopped_longer worker_run.pass.seen part.later history part.begins ends.1,
       )
-  whole_as history stint worker.NoMoreLinks part ends none = inl (all_came stint.to_come stint.left stint.served.works.inputs ends.1 stint.served.works.came)
-  whole_as history stint worker.Spent part ends none = absurd (let h = none.spent in cc)
-  whole_as history stint worker.AcceptFault part ends none = absurd (let h = none.network in cc)
-  whole_as history stint worker.Memory part ends none = absurd (let h = none.memory in cc)
-  whole_as history stint worker.FileFault part ends none = absurd (let h = none.file in cc)
+  whole_as history worker_run worker.NoMoreLinks part ends none = inl (all_came worker_run.to_come worker_run.left worker_run.served.works.inputs ends.1 worker_run.served.works.came)
+  whole_as history worker_run worker.Spent part ends none = absurd (let h = none.spent in cc)
+  whole_as history worker_run worker.AcceptFault part ends none = absurd (let h = none.network in cc)
+  whole_as history worker_run worker.Memory part ends none = absurd (let h = none.memory in cc)
+  whole_as history worker_run worker.FileFault part ends none = absurd (let h = none.file in cc)
 
-  wholes : (history : List Entry) (stints : List (Stint settings opening)) → AllByRecursion (IsPart history) stints → NoneFailed (map (λ (s : Stint settings opening). s.end) stints)
-      → AllByRecursion (IsWhole history) stints
+  wholes : (history : List Entry) (worker_runs : List (WorkerRun settings opening)) → AllByRecursion (IsPart history) worker_runs → NoneFailed (map (λ (s : WorkerRun settings opening). s.end) worker_runs)
+      → AllByRecursion (IsWhole history) worker_runs
   wholes history [] parts none = tt
-  wholes history (stint ∷ stints) parts none =
-      let ends = map (λ (s : Stint settings opening). s.end) stints in
-      let first : (end : WorkerEnd) → has_end end (stint.end ∷ ends) ≡ false → has_end end (stint.end ∷ []) ≡ false =
-      λ end is. ap (λ (b : Bool). b || false) ((or_parts (nat_eq (end_number stint.end) (end_number end)) (has_end end ends) is).0) in
-      let rest : (end : WorkerEnd) → has_end end (stint.end ∷ ends) ≡ false → has_end end ends ≡ false =
-      λ end is. (or_parts (nat_eq (end_number stint.end) (end_number end)) (has_end end ends) is).1 in (
-        whole_as history stint stint.end parts.0 stint.served.ends
+  wholes history (worker_run ∷ worker_runs) parts none =
+      let ends = map (λ (s : WorkerRun settings opening). s.end) worker_runs in
+      let first : (end : WorkerEnd) → has_end end (worker_run.end ∷ ends) ≡ false → has_end end (worker_run.end ∷ []) ≡ false =
+      λ end is. ap (λ (b : Bool). b || false) ((or_parts (nat_eq (end_number worker_run.end) (end_number end)) (has_end end ends) is).0) in
+      let rest : (end : WorkerEnd) → has_end end (worker_run.end ∷ ends) ≡ false → has_end end ends ≡ false =
+      λ end is. (or_parts (nat_eq (end_number worker_run.end) (end_number end)) (has_end end ends) is).1 in (
+        whole_as history worker_run worker_run.end parts.0 worker_run.served.ends
             (record { network = first worker.AcceptFault none.network; file = first worker.FileFault none.file; memory = first worker.Memory none.memory; spent = first worker.Spent none.spent }),
-        wholes history stints parts.1
+        wholes history worker_runs parts.1
             (record { network = rest worker.AcceptFault none.network; file = rest worker.FileFault none.file; memory = rest worker.Memory none.memory; spent = rest worker.Spent none.spent }),
       )
 
   -- if the verdict is `Done`, each worker served what came, or until the stop
-  pub wholes_by : (history : List Entry) (stints : List (Stint settings opening)) → AllByRecursion (IsPart history) stints → verdict_of (map (λ (s : Stint settings opening). s.end) stints) ≡ Done
-      → AllByRecursion (IsWhole history) stints
-  wholes_by history stints parts done =
-      let ends = map (λ (s : Stint settings opening). s.end) stints in
-      wholes history stints parts (none_failed ends (has_end worker.AcceptFault ends) (has_end worker.FileFault ends) (has_end worker.Memory ends) (has_end worker.Spent ends) refl refl refl refl done)
+  pub wholes_by : (history : List Entry) (worker_runs : List (WorkerRun settings opening)) → AllByRecursion (IsPart history) worker_runs → verdict_of (map (λ (s : WorkerRun settings opening). s.end) worker_runs) ≡ Done
+      → AllByRecursion (IsWhole history) worker_runs
+  wholes_by history worker_runs parts done =
+      let ends = map (λ (s : WorkerRun settings opening). s.end) worker_runs in
+      wholes history worker_runs parts (none_failed ends (has_end worker.AcceptFault ends) (has_end worker.FileFault ends) (has_end worker.Memory ends) (has_end worker.Spent ends) refl refl refl refl done)

@@ -18,9 +18,9 @@ use Rattle.share_workers.specs.declared.worker.WorkerEnd.{WorkerEnd}
 use Rattle.share_workers.specs.declared.worker.WorkerEnd.TheVariants.{Running, Stopped, NoMoreLinks, Spent, AcceptFault, FileFault, Memory}
 use Rattle.share_workers.specs.Ends.{CountsAccepts}
 use Rattle.share_crew.specs.Verdicts.{end_number, has_end}
-use Rattle.share_crew.specs.Listeners.{CountsShut}
-use Rattle.share_crew.specs.Stints.{Stint, Differ, numbers_of_all, passes_in, returns_of}
-use Rattle.share_crew.specs.Crews.{GoesOn, HasJoined, HasShut}
+use Rattle.share_crew.specs.Listeners.{CountsListenerFaults}
+use Rattle.share_crew.specs.WorkerRuns.{WorkerRun, AreDistinct, numbers_of_all, passes_in, returns_of}
+use Rattle.share_crew.specs.Crews.{ContinuesHistory, HasJoined, HasClosedListeners}
 use Rattle.share_crew.proofs.Nets.{grows_told, rose_then, stood_then}
 use Rattle.share_crew.proofs.Numbers.{contains_head, differ_push}
 
@@ -95,7 +95,7 @@ numbers_push passes k = map-append (λ (p : Pass). p.number) passes (k ∷ [])
 
 -- a history that continues what each has seen continues further, by no entries of theirs
 pub further : (ns : List ℕ) (seen seen' : List Entry) (passes : List Pass) → Continues maker ns seen seen' → ((n : ℕ) → Contains (numbers_of_all passes) n → Contains ns n)
-    → AllByRecursion (GoesOn seen) passes → AllByRecursion (GoesOn seen') passes
+    → AllByRecursion (ContinuesHistory seen) passes → AllByRecursion (ContinuesHistory seen') passes
 further ns seen seen' [] on among all = tt
 further ns seen seen' (pass ∷ passes) on among all =
     let mine : (n : ℕ) → Contains (numbers_of pass) n → Contains ns n =
@@ -131,52 +131,52 @@ join_more k k' k'' other passes h alone after first second apart =
       settings_stay = ap (λ (p : Pass). p.settings) after ∙ h.settings_stay;
       taken = taken ∙ (ap (λ l. l ++ other.number ∷ []) h.taken ∙ (append_assoc k.taken_in (numbers_of_all passes) (other.number ∷ []) ∙ ap (λ l. k.taken_in ++ l) (sym (numbers_push passes other))));
       front = continues_more maker (numbers_of k) k.seen k'.seen k''.seen h.front (continues_less maker (numbers_of k') (numbers_of k) k'.seen k''.seen had first);
-      fronts = all_push (GoesOn k''.seen) passes other (further (numbers_of k') k'.seen k''.seen passes first have h.fronts) (alone, second);
+      fronts = all_push (ContinuesHistory k''.seen) passes other (further (numbers_of k') k'.seen k''.seen passes first have h.fronts) (alone, second);
       differ = λ none.
           let mine : (n : ℕ) → Contains (k.number ∷ numbers_of_all passes) n → Contains (numbers_of k') n =
           λ n has. subst (λ (t : ℕ × List ℕ). Contains (t.0 ∷ t.1) n) (λ i. (sym h.number i, sym (h.taken ∙ ap (λ l. l ++ numbers_of_all passes) none) i)) has in
-          subst (λ l. Differ (k.number ∷ l)) (sym (numbers_push passes other))
+          subst (λ l. AreDistinct (k.number ∷ l)) (sym (numbers_push passes other))
           (differ_push (k.number ∷ numbers_of_all passes) other.number (h.differ none) (λ has. apart' other.number (mine other.number has) (contains_head other.number [])));
     }
 
 module _ {settings : Settings} {opening : List Entry} where
   -- no handle was joined to a worker's
-  pub took_none : (stint : Stint settings opening) → stint.pass.taken_in ≡ []
-  took_none stint = ap (λ (k : Pass). k.taken_in) stint.served.works.serves.stays
+  pub took_none : (worker_run : WorkerRun settings opening) → worker_run.pass.taken_in ≡ []
+  took_none worker_run = ap (λ (k : Pass). k.taken_in) worker_run.served.works.serves.stays
 
   -- the handle of one more worker was joined
-  pub joined_one : (k k' k'' other : Pass) (stints : List (Stint settings opening)) (stint : Stint settings opening) → HasJoined k k' (passes_in stints) → stint.pass ≡ other
+  pub joined_one : (k k' k'' other : Pass) (worker_runs : List (WorkerRun settings opening)) (worker_run : WorkerRun settings opening) → HasJoined k k' (passes_in worker_runs) → worker_run.pass ≡ other
       → k'' ≡ after_join k' other → Continues maker (numbers_of k') k'.seen k''.seen → Continues maker (numbers_of other) other.seen k''.seen → AreApart (numbers_of k') (numbers_of other)
-      → HasJoined k k'' (passes_in (stints ++ stint ∷ []))
-  joined_one k k' k'' other stints stint h is after first second apart =
-      subst (HasJoined k k'') (sym (map-append (λ (s : Stint settings opening). s.pass) stints (stint ∷ []) ∙ ap (λ (p : Pass). passes_in stints ++ p ∷ []) is))
-      (join_more k k' k'' other (passes_in stints) h (ap (λ (p : Pass). p.taken_in) (sym is) ∙ took_none stint) after first second apart)
+      → HasJoined k k'' (passes_in (worker_runs ++ worker_run ∷ []))
+  joined_one k k' k'' other worker_runs worker_run h is after first second apart =
+      subst (HasJoined k k'') (sym (map-append (λ (s : WorkerRun settings opening). s.pass) worker_runs (worker_run ∷ []) ∙ ap (λ (p : Pass). passes_in worker_runs ++ p ∷ []) is))
+      (join_more k k' k'' other (passes_in worker_runs) h (ap (λ (p : Pass). p.taken_in) (sym is) ∙ took_none worker_run) after first second apart)
 
   -- ---- listeners
 
-  pub none_shut : (written : Option (List Returned)) (faults : ℕ) → HasShut {settings = settings} {opening = opening} written written faults faults []
+  pub none_shut : (written : Option (List Returned)) (faults : ℕ) → HasClosedListeners {settings = settings} {opening = opening} written written faults faults []
   none_shut written faults = record {
     written_grows = λ kept more begun grows. subst (Grows kept written) (sym (append-nil more)) grows;
     counts = refl;
   }
 
-  pub shut_more : (w w' w'' told : Option (List Returned)) (n n' n'' given : ℕ) (stints : List (Stint settings opening)) (stint : Stint settings opening) → HasShut w w' n n' stints
-      → stint.written ≡ told → stint.faults ≡ given → GrowsByTold w' w'' told → RisesWith n' n'' given → HasShut w w'' n n'' (stints ++ stint ∷ [])
-  shut_more w w' w'' told n n' n'' given stints stint h told_is given_is grows rises = record {
+  pub shut_more : (w w' w'' told : Option (List Returned)) (n n' n'' given : ℕ) (worker_runs : List (WorkerRun settings opening)) (worker_run : WorkerRun settings opening) → HasClosedListeners w w' n n' worker_runs
+      → worker_run.written ≡ told → worker_run.faults ≡ given → GrowsByTold w' w'' told → RisesWith n' n'' given → HasClosedListeners w w'' n n'' (worker_runs ++ worker_run ∷ [])
+  shut_more w w' w'' told n n' n'' given worker_runs worker_run h told_is given_is grows rises = record {
     written_grows = λ kept more begun start.
-        let parts = all_parts (λ s. BeginsEmpty kept s.begun) stints stint begun in
-        let given_back : Grows stint.begun stint.written (returns_of stint) = stint.served.works.given_back in
-        let so_far : Grows kept w' (more ++ flat_map returns_of stints) = h.written_grows kept more parts.0 start in
-        subst (Grows kept w'') (joined more stints stint)
-        (grows_told kept stint.begun told w' w'' (more ++ flat_map returns_of stints) (returns_of stint) parts.1 (subst (λ t. Grows stint.begun t (returns_of stint)) told_is given_back) so_far grows);
-    counts = subst (λ (l : List WorkerEnd). CountsShut n n'' l) (sym (map-append (λ (s : Stint settings opening). s.end) stints (stint ∷ [])))
-        (subst (λ (b : Bool). MatchBool b (Rose n n'') (n'' ≡ n)) (sym (any_push (map (λ (s : Stint settings opening). s.end) stints) stint.end))
-        (count_more (has_end AcceptFault (map (λ (s : Stint settings opening). s.end) stints)) stint.end n n' n'' given h.counts (subst (λ f. CountsAccepts 0 f stint.end) given_is stint.served.counts) rises));
+        let parts = all_parts (λ s. BeginsEmpty kept s.begun) worker_runs worker_run begun in
+        let given_back : Grows worker_run.begun worker_run.written (returns_of worker_run) = worker_run.served.works.given_back in
+        let so_far : Grows kept w' (more ++ flat_map returns_of worker_runs) = h.written_grows kept more parts.0 start in
+        subst (Grows kept w'') (joined more worker_runs worker_run)
+        (grows_told kept worker_run.begun told w' w'' (more ++ flat_map returns_of worker_runs) (returns_of worker_run) parts.1 (subst (λ t. Grows worker_run.begun t (returns_of worker_run)) told_is given_back) so_far grows);
+    counts = subst (λ (l : List WorkerEnd). CountsListenerFaults n n'' l) (sym (map-append (λ (s : WorkerRun settings opening). s.end) worker_runs (worker_run ∷ [])))
+        (subst (λ (b : Bool). MatchBool b (Rose n n'') (n'' ≡ n)) (sym (any_push (map (λ (s : WorkerRun settings opening). s.end) worker_runs) worker_run.end))
+        (count_more (has_end AcceptFault (map (λ (s : WorkerRun settings opening). s.end) worker_runs)) worker_run.end n n' n'' given h.counts (subst (λ f. CountsAccepts 0 f worker_run.end) given_is worker_run.served.counts) rises));
   }
     where
-      flat_push : (stints : List (Stint settings opening)) (stint : Stint settings opening) → flat_map returns_of (stints ++ stint ∷ []) ≡ flat_map returns_of stints ++ returns_of stint
-      flat_push [] stint = append-nil (returns_of stint)
-      flat_push (s ∷ stints) stint = ap (λ l. returns_of s ++ l) (flat_push stints stint) ∙ sym (append_assoc (returns_of s) (flat_map returns_of stints) (returns_of stint))
+      flat_push : (worker_runs : List (WorkerRun settings opening)) (worker_run : WorkerRun settings opening) → flat_map returns_of (worker_runs ++ worker_run ∷ []) ≡ flat_map returns_of worker_runs ++ returns_of worker_run
+      flat_push [] worker_run = append-nil (returns_of worker_run)
+      flat_push (s ∷ worker_runs) worker_run = ap (λ l. returns_of s ++ l) (flat_push worker_runs worker_run) ∙ sym (append_assoc (returns_of s) (flat_map returns_of worker_runs) (returns_of worker_run))
 
-      joined : (more : List Returned) (stints : List (Stint settings opening)) (stint : Stint settings opening) → (more ++ flat_map returns_of stints) ++ returns_of stint ≡ more ++ flat_map returns_of (stints ++ stint ∷ [])
-      joined more stints stint = append_assoc more (flat_map returns_of stints) (returns_of stint) ∙ ap (λ l. more ++ l) (sym (flat_push stints stint))
+      joined : (more : List Returned) (worker_runs : List (WorkerRun settings opening)) (worker_run : WorkerRun settings opening) → (more ++ flat_map returns_of worker_runs) ++ returns_of worker_run ≡ more ++ flat_map returns_of (worker_runs ++ worker_run ∷ [])
+      joined more worker_runs worker_run = append_assoc more (flat_map returns_of worker_runs) (returns_of worker_run) ∙ ap (λ l. more ++ l) (sym (flat_push worker_runs worker_run))

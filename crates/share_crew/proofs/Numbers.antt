@@ -5,7 +5,7 @@ use Rattle.std.proofs.lemmas.List.Elements.{Contains-append_right, Contains-push
 use Rattle.std.proofs.lemmas.Map.Steps.{length-le_from_distinct_below}
 use Rattle.std.specs.List.{AllByRecursion, IsDistinct, list_any}
 use Rattle.std.specs.Prelude.{Contains}
-use Rattle.share_crew.specs.Stints.{Differ}
+use Rattle.share_crew.specs.WorkerRuns.{AreDistinct}
 
 pub contains_head : {A : Type 0} (x : A) (xs : List A) → Contains (x ∷ xs) x
 contains_head x xs = (0, omega arith, refl)
@@ -44,12 +44,12 @@ none_equal n [] none = tt
 none_equal n (m ∷ ms) none =
     (ne_eqb n m (λ is. none (subst (λ y. Contains (m ∷ ms) y) (sym is) (contains_head m ms))), none_equal n ms (λ has. none (contains_tail n m ms has)))
 
-pub distinct : (ns : List ℕ) → Differ ns → IsDistinct (λ m n. m == n) ns
+pub distinct : (ns : List ℕ) → AreDistinct ns → IsDistinct (λ m n. m == n) ns
 unfolding IsDistinct
 distinct [] differ = tt
 distinct (n ∷ ns) differ = (none_equal n ns differ.0, distinct ns differ.1)
 
-pub differ_push : (ns : List ℕ) (n : ℕ) → Differ ns → ¬ (Contains ns n) → Differ (ns ++ n ∷ [])
+pub differ_push : (ns : List ℕ) (n : ℕ) → AreDistinct ns → ¬ (Contains ns n) → AreDistinct (ns ++ n ∷ [])
 differ_push [] n differ other = ((λ has. let h = has.1 in absurd (omega arith)), tt)
 differ_push (m ∷ ms) n differ other = (
   (λ has. apart (Contains-push_cases ms n m has)),
@@ -69,7 +69,7 @@ below_any n [] below q found = absurd (cc)
 below_any n (x ∷ xs) below q found = below_at n q x xs (q == x) refl below.0 (below_any n xs below.1 q) found
 
 -- one more would be too many
-no_other : (n : ℕ) (xs : List ℕ) → Differ xs → AllByRecursion (λ x. x < n) xs → length xs ≡ n → (q : ℕ) → q < n → ¬ (Contains xs q) → ⊥
+no_other : (n : ℕ) (xs : List ℕ) → AreDistinct xs → AllByRecursion (λ x. x < n) xs → length xs ≡ n → (q : ℕ) → q < n → ¬ (Contains xs q) → ⊥
 no_other n xs differ below count q less other =
     let most = length-le_from_distinct_below (q ∷ xs) n (distinct (q ∷ xs) (other, differ)) (below_any n (q ∷ xs) (less, below)) in
     omega (arith, most, count)
@@ -79,5 +79,5 @@ found_or_not n xs q other true found = any_contains q xs found
 found_or_not n xs q other false none = absurd (other (λ has. absurd (let f : true ≡ false = sym (contains_any q xs has) ∙ none in cc)))
 
 -- as many different numbers as there are below a bound are all of them
-pub each_stands : (n : ℕ) (xs : List ℕ) → Differ xs → AllByRecursion (λ x. x < n) xs → length xs ≡ n → (q : ℕ) → q < n → Contains xs q
+pub each_stands : (n : ℕ) (xs : List ℕ) → AreDistinct xs → AllByRecursion (λ x. x < n) xs → length xs ≡ n → (q : ℕ) → q < n → Contains xs q
 each_stands n xs differ below count q less = found_or_not n xs q (no_other n xs differ below count q less) (list_any (λ x. q == x) xs) refl

@@ -1,4 +1,4 @@
--- The history that the stints of all workers leave together.
+-- The history that the worker runs of all workers leave together.
 use Rattle.std.proofs.Common.{◌≡◌, ◌≢◌, ◌⊎◌, ◌+◌, ◌<◌, ◌≤◌, ℕ, zero, suc, cond, List, [], ◌∷◌, ◌++◌, length, get_or, refl, sym, subst, ap, ◌∙◌, inl, inr, arith, append_assoc, ne_eqb}
 use Rattle.std.proofs.lemmas.List.{length-map}
 use Rattle.std.proofs.lemmas.List.Elements.{All-append, Contains-append_left, Contains-append_right, Contains-append_cases}
@@ -14,8 +14,8 @@ use Rattle.share_server.specs.Passes.{Pass}
 use Rattle.share_server.specs.Served.{added_entries}
 use Rattle.share_server.proofs.Longer.{stays}
 use Rattle.share_workers.specs.Works.{all_served}
-use Rattle.share_crew.specs.Stints.{Stint, IsPart, IsOther, IsHistoryOf, IsNumbered, numbers_of_all, passes_in}
-use Rattle.share_crew.specs.Crews.{GoesOn, HasJoined}
+use Rattle.share_crew.specs.WorkerRuns.{WorkerRun, IsPart, IsOther, IsHistoryOf, IsNumbered, numbers_of_all, passes_in}
+use Rattle.share_crew.specs.Crews.{ContinuesHistory, HasJoined}
 use Rattle.share_crew.proofs.Joining.{further}
 use Rattle.share_crew.proofs.Numbers.{each_stands, contains_head}
 
@@ -39,7 +39,7 @@ all_split P [] ys all = (tt, all)
 all_split P (x ∷ xs) ys all = let rest = all_split P xs ys all.1 in ((all.0, rest.0), rest.1)
 
 -- a history that continues what another handle has seen has its part
-others_in : (history : List Entry) (others : List Pass) → AllByRecursion (GoesOn history) others → AllByRecursion (IsOther history) others
+others_in : (history : List Entry) (others : List Pass) → AllByRecursion (ContinuesHistory history) others → AllByRecursion (IsOther history) others
 others_in history [] on = tt
 others_in history (k ∷ others) on = (
   record { later = on.0.1.more; begins = on.0.1.begins; own = on.0.1.own k.number (contains_head k.number k.taken_in) },
@@ -48,32 +48,32 @@ others_in history (k ∷ others) on = (
 
 module _ {settings : Settings} {opening : List Entry} where
   -- a history that continues what a worker's handle has seen has its part
-  part : (history : List Entry) (stint : Stint settings opening) → 1 ≤ stint.pass.number → All (λ e. maker e ≡ 0) opening
-      → Continues maker (numbers_of stint.pass) stint.pass.seen history → IsPart history stint
-  part history stint some opened on =
-      let served = all_served stint.reports in
-      let serves = stint.served.works.serves in
-      let more = stays settings stint.pass.number 0 stint.pass.seen on.more 0 stint.served.works.asks served serves.are_served in record {
+  part : (history : List Entry) (worker_run : WorkerRun settings opening) → 1 ≤ worker_run.pass.number → All (λ e. maker e ≡ 0) opening
+      → Continues maker (numbers_of worker_run.pass) worker_run.pass.seen history → IsPart history worker_run
+  part history worker_run some opened on =
+      let served = all_served worker_run.reports in
+      let serves = worker_run.served.works.serves in
+      let more = stays settings worker_run.pass.number 0 worker_run.pass.seen on.more 0 worker_run.served.works.asks served serves.are_served in record {
         later = on.more;
         begins = on.begins;
-        none = λ i d less has. on.later i d less (Contains-append_left (stint.pass.number ∷ []) stint.pass.taken_in _ has);
-        own = on.own stint.pass.number (contains_head stint.pass.number stint.pass.taken_in)
+        none = λ i d less has. on.later i d less (Contains-append_left (worker_run.pass.number ∷ []) worker_run.pass.taken_in _ has);
+        own = on.own worker_run.pass.number (contains_head worker_run.pass.number worker_run.pass.taken_in)
             ∙ serves.own
-            ∙ ap (λ l. l ++ (added_entries stint.pass.seen served ++ stint.served.works.lost)) (none_of_opening stint.pass.number opening some opened)
-            ∙ ap (λ l. l ++ stint.served.works.lost) (sym more.entries ∙ ap (λ h. added_entries h served) (sym on.begins));
+            ∙ ap (λ l. l ++ (added_entries worker_run.pass.seen served ++ worker_run.served.works.lost)) (none_of_opening worker_run.pass.number opening some opened)
+            ∙ ap (λ l. l ++ worker_run.served.works.lost) (sym more.entries ∙ ap (λ h. added_entries h served) (sym on.begins));
       }
 
-  parts : (history : List Entry) (bound : ℕ) (stints : List (Stint settings opening)) → AllByRecursion (IsNumbered bound) (passes_in stints) → All (λ e. maker e ≡ 0) opening
-      → AllByRecursion (GoesOn history) (passes_in stints) → AllByRecursion (IsPart history) stints
+  parts : (history : List Entry) (bound : ℕ) (worker_runs : List (WorkerRun settings opening)) → AllByRecursion (IsNumbered bound) (passes_in worker_runs) → All (λ e. maker e ≡ 0) opening
+      → AllByRecursion (ContinuesHistory history) (passes_in worker_runs) → AllByRecursion (IsPart history) worker_runs
   parts history bound [] numbered opened on = tt
-  parts history bound (stint ∷ stints) numbered opened on = (part history stint numbered.0.0 opened on.0.1, parts history bound stints numbered.1 opened on.1)
+  parts history bound (worker_run ∷ worker_runs) numbered opened on = (part history worker_run numbered.0.0 opened on.0.1, parts history bound worker_runs numbered.1 opened on.1)
 
-  pub one_history : (k' : Pass) (history : List Entry) (stints : List (Stint settings opening)) (others : List Pass) → All (λ e. maker e ≡ 0) opening
-      → HasJoined (fresh 0 settings opening) k' (passes_in stints ++ others) → AllByRecursion (IsNumbered (length (passes_in stints ++ others) + 1)) (passes_in stints ++ others)
-      → Continues maker (numbers_of k') k'.seen history → All (λ e. maker e < length (passes_in stints ++ others) + 1) history
-      → IsHistoryOf (length (passes_in stints ++ others)) history stints others
-  one_history k' history stints others opened joined numbered on small =
-      let all = passes_in stints ++ others in
+  pub one_history : (k' : Pass) (history : List Entry) (worker_runs : List (WorkerRun settings opening)) (others : List Pass) → All (λ e. maker e ≡ 0) opening
+      → HasJoined (fresh 0 settings opening) k' (passes_in worker_runs ++ others) → AllByRecursion (IsNumbered (length (passes_in worker_runs ++ others) + 1)) (passes_in worker_runs ++ others)
+      → Continues maker (numbers_of k') k'.seen history → All (λ e. maker e < length (passes_in worker_runs ++ others) + 1) history
+      → IsHistoryOf (length (passes_in worker_runs ++ others)) history worker_runs others
+  one_history k' history worker_runs others opened joined numbered on small =
+      let all = passes_in worker_runs ++ others in
       let ns = numbers_of_all all in
       let bound = length all + 1 in
       let differ = joined.differ refl in
@@ -85,9 +85,9 @@ module _ {settings : Settings} {opening : List Entry} where
       let lower : All (λ e. maker e < bound) (joined.front.more ++ on.more) = all_rest (λ e. maker e < bound) opening (joined.front.more ++ on.more) (subst (All (λ e. maker e < bound)) begins small) in
       let among : (n : ℕ) → Contains ns n → Contains (numbers_of k') n =
       λ n has. Contains-append_right (k'.number ∷ []) k'.taken_in n (subst (λ l. Contains l n) (sym joined.taken) has) in
-      let fronts = all_split (GoesOn history) (passes_in stints) others (further (numbers_of k') k'.seen history all on among joined.fronts) in
-      let numbers = all_split (IsNumbered bound) (passes_in stints) others numbered in record {
-        parts = parts history bound stints numbers.0 opened fronts.0;
+      let fronts = all_split (ContinuesHistory history) (passes_in worker_runs) others (further (numbers_of k') k'.seen history all on among joined.fronts) in
+      let numbers = all_split (IsNumbered bound) (passes_in worker_runs) others numbered in record {
+        parts = parts history bound worker_runs numbers.0 opened fronts.0;
         other_parts = others_in history others fronts.1;
         differ = differ.1;
         numbered = few (length all) all numbered;

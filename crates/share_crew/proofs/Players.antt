@@ -22,7 +22,7 @@ use Rattle.share_server.specs.Served.{AreServed, added_entries, added_part, at_p
 use Rattle.share_server.proofs.Listening.{any_neither, players_change_nothing}
 use Rattle.share_workers.specs.Ends.{is_worker_loss}
 use Rattle.share_workers.specs.Works.{IsLostBy, LinksAt, Works, all_served, loses_any}
-use Rattle.share_crew.specs.Stints.{Stint, IsPart, numbers_of_all, passes_in}
+use Rattle.share_crew.specs.WorkerRuns.{WorkerRun, IsPart, numbers_of_all, passes_in}
 use Rattle.share_crew.proofs.Numbers.{contains_head, head_or_tail}
 use Rattle.share_crew.proofs.OneHistory.{none_of_opening}
 
@@ -92,11 +92,11 @@ unlost_links settings by budget h (input ∷ inputs) (report ∷ reports) (retur
     ap (λ b. b || loses_any reports) (links.0.unlost is) ∙ unlost_links settings by (budget - length report.served) h inputs reports returns r is links.1
 
 module _ {settings : Settings} {opened : List Entry} where
-  pub players_lose_nothing : (stint : Stint settings opened) → stint.role ≡ role.Listen → is_worker_loss stint.end ≡ false
-  players_lose_nothing stint is =
-      let works = stint.served.works in
-      sym stint.served.whole
-      ∙ unlost_links settings stint.pass.number 262144 stint.pass.seen works.inputs stint.reports works.returns stint.role is works.links
+  pub players_lose_nothing : (worker_run : WorkerRun settings opened) → worker_run.role ≡ role.Listen → is_worker_loss worker_run.end ≡ false
+  players_lose_nothing worker_run is =
+      let works = worker_run.served.works in
+      sym worker_run.served.whole
+      ∙ unlost_links settings worker_run.pass.number 262144 worker_run.pass.seen works.inputs worker_run.reports works.returns worker_run.role is works.links
 
   quiet_works : (kind : Entry → Bool) → IsNoPlayers kind → (number : ℕ) (k' : Pass) (to_come left : Option (List (List ℕ))) (begun written : Option (List Returned)) (reports : List LinkReport)
       (r : Role) → r ≡ role.Listen
@@ -107,27 +107,27 @@ module _ {settings : Settings} {opened : List Entry} where
       (subst (λ (q : Role). LinksAt settings number q 262144 k'.seen works.inputs reports works.returns) is works.links)
 
   -- a player made no entry of the kind in a history
-  player_is_quiet : (kind : Entry → Bool) → IsNoPlayers kind → (history : List Entry) (stint : Stint settings opened) → stint.role ≡ role.Listen → is_worker_loss stint.end ≡ false
-      → 1 ≤ stint.pass.number → All (λ e. maker e ≡ 0) opened → IsPart history stint → All (IsQuietIn kind stint.pass.number) history
-  player_is_quiet kind none history stint listens whole some first part =
-      let n = stint.pass.number in
-      let works = stint.served.works in
-      let lost : works.lost ≡ [] = no_loss _ stint.pass (all_served stint.reports) (loses_any stint.reports) works.lost (stint.served.whole ∙ whole) works.loses in
-      let own : entries_of maker n stint.pass.seen ≡ added_entries stint.pass.seen (all_served stint.reports) =
+  player_is_quiet : (kind : Entry → Bool) → IsNoPlayers kind → (history : List Entry) (worker_run : WorkerRun settings opened) → worker_run.role ≡ role.Listen → is_worker_loss worker_run.end ≡ false
+      → 1 ≤ worker_run.pass.number → All (λ e. maker e ≡ 0) opened → IsPart history worker_run → All (IsQuietIn kind worker_run.pass.number) history
+  player_is_quiet kind none history worker_run listens whole some first part =
+      let n = worker_run.pass.number in
+      let works = worker_run.served.works in
+      let lost : works.lost ≡ [] = no_loss _ worker_run.pass (all_served worker_run.reports) (loses_any worker_run.reports) works.lost (worker_run.served.whole ∙ whole) works.loses in
+      let own : entries_of maker n worker_run.pass.seen ≡ added_entries worker_run.pass.seen (all_served worker_run.reports) =
       works.serves.own
-      ∙ ap (λ l. l ++ (added_entries stint.pass.seen (all_served stint.reports) ++ works.lost)) (none_of_opening n opened some first)
-      ∙ ap (λ l. added_entries stint.pass.seen (all_served stint.reports) ++ l) lost
-      ∙ append-nil (added_entries stint.pass.seen (all_served stint.reports)) in
-      let quiet = quiet_works kind none n stint.pass stint.to_come stint.left stint.begun stint.written stint.reports stint.role listens works in
+      ∙ ap (λ l. l ++ (added_entries worker_run.pass.seen (all_served worker_run.reports) ++ works.lost)) (none_of_opening n opened some first)
+      ∙ ap (λ l. added_entries worker_run.pass.seen (all_served worker_run.reports) ++ l) lost
+      ∙ append-nil (added_entries worker_run.pass.seen (all_served worker_run.reports)) in
+      let quiet = quiet_works kind none n worker_run.pass worker_run.to_come worker_run.left worker_run.begun worker_run.written worker_run.reports worker_run.role listens works in
       subst (All (IsQuietIn kind n)) (sym part.begins)
-      (All-append (IsQuietIn kind n) stint.pass.seen part.later (quiet_all kind n stint.pass.seen (ap (list_any kind) own ∙ quiet))
+      (All-append (IsQuietIn kind n) worker_run.pass.seen part.later (quiet_all kind n worker_run.pass.seen (ap (list_any kind) own ∙ quiet))
       (λ i d less is. absurd (part.none i d less (subst (λ m. Contains (n ∷ []) m) (sym is) (contains_head n [])))))
 
   -- all of them are players who lost nothing
-  abbrev pub ArePlayers : List (Stint settings opened) → Type 0
+  abbrev pub ArePlayers : List (WorkerRun settings opened) → Type 0
   ArePlayers players = AllByRecursion (λ s. (s.role ≡ role.Listen) × (is_worker_loss s.end ≡ false)) players
 
-  pub quiet_players_in : (kind : Entry → Bool) → IsNoPlayers kind → (history behind : List Entry) (players others : List (Stint settings opened)) (beside : List Pass) (most : ℕ)
+  pub quiet_players_in : (kind : Entry → Bool) → IsNoPlayers kind → (history behind : List Entry) (players others : List (WorkerRun settings opened)) (beside : List Pass) (most : ℕ)
       → ArePlayers players → AllByRecursion (IsPart history) (players ++ others)
       → AllByRecursion (λ n. (1 ≤ n) × (n ≤ most)) (numbers_of_all (passes_in (players ++ others) ++ beside)) → All (λ e. maker e ≡ 0) opened → history ≡ opened ++ behind
       → AllByRecursion (λ s. All (IsQuietIn kind s.pass.number) behind) players
@@ -139,7 +139,7 @@ module _ {settings : Settings} {opened : List Entry} where
   )
 
   -- an entry of the kind is of no player's number
-  pub by_another_in : (kind : Entry → Bool) (e : Entry) (players others : List (Stint settings opened)) (beside : List Pass) → kind e ≡ true
+  pub by_another_in : (kind : Entry → Bool) (e : Entry) (players others : List (WorkerRun settings opened)) (beside : List Pass) → kind e ≡ true
       → AllByRecursion (λ s. IsQuietIn kind s.pass.number e) players → Contains (numbers_of_all (passes_in (players ++ others) ++ beside)) (maker e)
       → Contains (numbers_of_all (passes_in others ++ beside)) (maker e)
   by_another_in kind e [] others beside is quiet has = has
@@ -153,22 +153,22 @@ module _ {settings : Settings} {opened : List Entry} where
       at rest (inl same) = absurd (let n = quiet.0 same in let f : true ≡ false = sym is ∙ n in cc)
       at rest (inr there) = rest there
 
-  pub each_at_in : (kind : Entry → Bool) (behind : List Entry) (i : ℕ) (d : Entry) (players : List (Stint settings opened)) → suc i ≤ length behind
+  pub each_at_in : (kind : Entry → Bool) (behind : List Entry) (i : ℕ) (d : Entry) (players : List (WorkerRun settings opened)) → suc i ≤ length behind
       → AllByRecursion (λ s. All (IsQuietIn kind s.pass.number) behind) players → AllByRecursion (λ s. IsQuietIn kind s.pass.number (get_or behind i d)) players
   each_at_in kind behind i d [] less all = tt
   each_at_in kind behind i d (s ∷ players) less all = (all.0 i d less, each_at_in kind behind i d players less all.1)
 
   -- ---- the same of edits
 
-  pub quiet_players : (history behind : List Entry) (players others : List (Stint settings opened)) (beside : List Pass) (most : ℕ) → ArePlayers players
+  pub quiet_players : (history behind : List Entry) (players others : List (WorkerRun settings opened)) (beside : List Pass) (most : ℕ) → ArePlayers players
       → AllByRecursion (IsPart history) (players ++ others) → AllByRecursion (λ n. (1 ≤ n) × (n ≤ most)) (numbers_of_all (passes_in (players ++ others) ++ beside))
       → All (λ e. maker e ≡ 0) opened → history ≡ opened ++ behind → AllByRecursion (λ s. All (IsQuiet s.pass.number) behind) players
   quiet_players = quiet_players_in is_edit no_edits
 
-  pub by_another : (e : Entry) (players others : List (Stint settings opened)) (beside : List Pass) → is_edit e ≡ true → AllByRecursion (λ s. IsQuiet s.pass.number e) players
+  pub by_another : (e : Entry) (players others : List (WorkerRun settings opened)) (beside : List Pass) → is_edit e ≡ true → AllByRecursion (λ s. IsQuiet s.pass.number e) players
       → Contains (numbers_of_all (passes_in (players ++ others) ++ beside)) (maker e) → Contains (numbers_of_all (passes_in others ++ beside)) (maker e)
   by_another = by_another_in is_edit
 
-  pub each_at : (behind : List Entry) (i : ℕ) (d : Entry) (players : List (Stint settings opened)) → suc i ≤ length behind → AllByRecursion (λ s. All (IsQuiet s.pass.number) behind) players
+  pub each_at : (behind : List Entry) (i : ℕ) (d : Entry) (players : List (WorkerRun settings opened)) → suc i ≤ length behind → AllByRecursion (λ s. All (IsQuiet s.pass.number) behind) players
       → AllByRecursion (λ s. IsQuiet s.pass.number (get_or behind i d)) players
   each_at = each_at_in is_edit

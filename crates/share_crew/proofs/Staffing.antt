@@ -1,4 +1,4 @@
--- Workers that are made, one for each listener, and their stints once they have ended.
+-- Workers that are made, one for each listener, and their worker runs once they have ended.
 use Rattle.std.proofs.Common.{◌≡◌, ◌<◌, ◌≤◌, ℕ, List, [], ◌∷◌, ◌++◌, map, Option, refl, sym, subst, ap, ◌∙◌, arith, append_assoc, append-nil}
 use Rattle.std.proofs.lemmas.List.{map-append}
 use Rattle.std.proofs.lemmas.List.Elements.{All-append, All-push}
@@ -16,25 +16,25 @@ use Rattle.share_workers.specs.declared.worker.Worker.{Worker}
 use Rattle.share_workers.specs.declared.worker.WorkerEnd.TheVariants.{Running}
 use Rattle.share_workers.specs.Ends.{WorkerServed}
 use Rattle.share_crew.specs.Listeners.{IsNew}
-use Rattle.share_crew.specs.Stints.{Stint, IsNumbered, passes_in}
-use Rattle.share_crew.specs.Crews.{IsHired, HasHired, HasEnded, IsStaff, IsOf}
+use Rattle.share_crew.specs.WorkerRuns.{WorkerRun, IsNumbered, passes_in}
+use Rattle.share_crew.specs.Crews.{IsNewWorker, AddsWorkers, HasEnded, IsStaff, IsOf}
 
 module _ {D : Type 0} where
-  pub none_hired : (id : LockId) (k : Pass) (role : Role) (crew : List (Worker D)) → HasHired id k role [] crew crew
+  pub none_hired : (id : LockId) (k : Pass) (role : Role) (crew : List (Worker D)) → AddsWorkers id k role [] crew crew
   none_hired id k role crew = record { added = []; are = sym (append-nil crew); hired = λ n d less. absurd (omega arith); listeners_are = refl; roles_are = refl }
 
-  pub hire_more : (id : LockId) (k : Pass) (role : Role) (listeners : List D) (listener : D) (before after after' : List (Worker D)) (worker : Worker D) → HasHired id k role listeners before after
-      → after' ≡ after ++ worker ∷ [] → IsHired id k worker → worker.listener ≡ listener → worker.role ≡ role → HasHired id k role (listeners ++ listener ∷ []) before after'
+  pub hire_more : (id : LockId) (k : Pass) (role : Role) (listeners : List D) (listener : D) (before after after' : List (Worker D)) (worker : Worker D) → AddsWorkers id k role listeners before after
+      → after' ≡ after ++ worker ∷ [] → IsNewWorker id k worker → worker.listener ≡ listener → worker.role ≡ role → AddsWorkers id k role (listeners ++ listener ∷ []) before after'
   hire_more id k role listeners listener before after after' worker h is one at role_is = record {
     added = h.added ++ worker ∷ [];
     are = is ∙ (ap (λ l. l ++ worker ∷ []) h.are ∙ append_assoc before h.added (worker ∷ []));
-    hired = All-push (IsHired id k) h.added worker h.hired one;
+    hired = All-push (IsNewWorker id k) h.added worker h.hired one;
     listeners_are = map-append (λ (w : Worker D). w.listener) h.added (worker ∷ []) ∙ (λ i. h.listeners_are i ++ at i ∷ []);
     roles_are = map-append (λ (w : Worker D). w.role) h.added (worker ∷ []) ∙ ((λ i. h.roles_are i ++ role_is i ∷ []) ∙ sym (map-append (λ (d : D). role) listeners (listener ∷ [])));
   }
 
   pub is_hired : (id : LockId) (k k' : Pass) (worker : Worker D) → k' ≡ k → IsReady id worker.pass → known worker.pass ≡ fresh (known worker.pass).number k'.settings k'.seen
-      → 1 ≤ (known worker.pass).number → (known worker.pass).number < id.1 → worker.reports.items ≡ [] → worker.end ≡ Running → IsHired id k worker
+      → 1 ≤ (known worker.pass).number → (known worker.pass).number < id.1 → worker.reports.items ≡ [] → worker.end ≡ Running → IsNewWorker id k worker
   is_hired id k k' worker same ready pass some few unreported running = record {
     ready = ready;
     pass = pass ∙ ap (λ (p : Pass). fresh (known worker.pass).number p.settings p.seen) same;
@@ -45,32 +45,32 @@ module _ {D : Type 0} where
   }
 
   -- those of one address, and then those of the other
-  pub staff : (id : LockId) (k : Pass) (one other : Role) (listen edit : List D) (mid crew : List (Worker D)) → HasHired id k one listen [] mid → HasHired id k other edit mid crew
+  pub staff : (id : LockId) (k : Pass) (one other : Role) (listen edit : List D) (mid crew : List (Worker D)) → AddsWorkers id k one listen [] mid → AddsWorkers id k other edit mid crew
       → IsStaff id k (map (λ listener. one) listen ++ map (λ listener. other) edit) (listen ++ edit) crew
   staff id k one other listen edit mid crew h g =
       let all : crew ≡ h.added ++ g.added = g.are ∙ ap (λ l. l ++ g.added) h.are in record {
-        hired = subst (All (IsHired id k)) (sym all) (All-append (IsHired id k) h.added g.added h.hired g.hired);
+        hired = subst (All (IsNewWorker id k)) (sym all) (All-append (IsNewWorker id k) h.added g.added h.hired g.hired);
         listeners_are = ap (map (λ (w : Worker D). w.listener)) all ∙ (map-append (λ (w : Worker D). w.listener) h.added g.added ∙ (λ i. h.listeners_are i ++ g.listeners_are i));
         roles_are = ap (map (λ (w : Worker D). w.role)) all ∙ (map-append (λ (w : Worker D). w.role) h.added g.added ∙ (λ i. h.roles_are i ++ g.roles_are i));
       }
 
--- the stints of workers, from before they begin to what they leave
-pub record HasStints {D : Type 0} (settings : Settings) (opening : List Entry) (passes : ℕ) (coming : D → Option (List (List ℕ))) (written : D → Option (List Returned)) (faults : D → ℕ) (kept : Option (List Returned)) (before after : List (Worker D)) : Type 0 where
-  pub stints : List (Stint settings opening)
-  pub are : AllZip (IsOf written faults) stints after
-  pub roles : map (λ (s : Stint settings opening). s.role) stints ≡ map (λ (w : Worker D). w.role) before
-  pub come : map (λ (s : Stint settings opening). s.to_come) stints ≡ map (λ (w : Worker D). coming w.listener) before
-  pub begun : AllByRecursion (λ (s : Stint settings opening). BeginsEmpty kept s.begun) stints
-  pub numbered : AllByRecursion (IsNumbered passes) (passes_in stints)
+-- the worker runs of workers, from before they begin to what they leave
+pub record HasWorkerRuns {D : Type 0} (settings : Settings) (opening : List Entry) (passes : ℕ) (coming : D → Option (List (List ℕ))) (written : D → Option (List Returned)) (faults : D → ℕ) (kept : Option (List Returned)) (before after : List (Worker D)) : Type 0 where
+  pub worker_runs : List (WorkerRun settings opening)
+  pub are : AllZip (IsOf written faults) worker_runs after
+  pub roles : map (λ (s : WorkerRun settings opening). s.role) worker_runs ≡ map (λ (w : Worker D). w.role) before
+  pub come : map (λ (s : WorkerRun settings opening). s.to_come) worker_runs ≡ map (λ (w : Worker D). coming w.listener) before
+  pub begun : AllByRecursion (λ (s : WorkerRun settings opening). BeginsEmpty kept s.begun) worker_runs
+  pub numbered : AllByRecursion (IsNumbered passes) (passes_in worker_runs)
 
 module _ {D : Type 0} (settings : Settings) (opening : List Entry) (id : LockId) (k : Pass) (coming : D → Option (List (List ℕ))) (written : D → Option (List Returned)) (faults : D → ℕ) (kept : Option (List Returned)) where
   -- the number stays
   number_stays : (old new : Worker D) → HasEnded coming written faults old new → (known new.pass).number ≡ (known old.pass).number
   number_stays old new served = ap (λ (p : Pass). p.number) served.works.serves.stays
 
-  -- a worker's stint
-  stint_of : (old new : Worker D) → k ≡ fresh 0 settings opening → IsHired id k old → IsNew written faults kept old.listener → HasEnded coming written faults old new → Stint settings opening
-  stint_of old new start hired new_listener served = record {
+  -- a worker's worker run
+  worker_run_of : (old new : Worker D) → k ≡ fresh 0 settings opening → IsNewWorker id k old → IsNew written faults kept old.listener → HasEnded coming written faults old new → WorkerRun settings opening
+  worker_run_of old new start hired new_listener served = record {
     role = old.role;
     pass = known new.pass;
     to_come = coming old.listener;
@@ -85,17 +85,17 @@ module _ {D : Type 0} (settings : Settings) (opening : List Entry) (id : LockId)
         (hired.pass ∙ ((λ i. fresh (sym (number_stays old new served) i) (start i).settings (start i).seen))) served);
   }
 
-  pub stints_of : (before after : List (Worker D)) → k ≡ fresh 0 settings opening → AllByRecursion (IsHired id k) before → AllByRecursion (λ (w : Worker D). IsNew written faults kept w.listener) before
-      → AllZip (HasEnded coming written faults) before after → AllZip (λ (old new : Worker D). new.role ≡ old.role) before after → HasStints settings opening id.1 coming written faults kept before after
-  unfolding stint_of
-  stints_of [] [] start hired listeners served roles = record { stints = []; are = tt; roles = refl; come = refl; begun = tt; numbered = tt }
-  stints_of [] (new ∷ after) start hired listeners served roles = absurd served
-  stints_of (old ∷ before) [] start hired listeners served roles = absurd served
-  stints_of (old ∷ before) (new ∷ after) start hired listeners served roles =
-      let rest = stints_of before after start hired.1 listeners.1 served.1 roles.1 in
-      let one = stint_of old new start hired.0 listeners.0 served.0 in
+  pub worker_runs_of : (before after : List (Worker D)) → k ≡ fresh 0 settings opening → AllByRecursion (IsNewWorker id k) before → AllByRecursion (λ (w : Worker D). IsNew written faults kept w.listener) before
+      → AllZip (HasEnded coming written faults) before after → AllZip (λ (old new : Worker D). new.role ≡ old.role) before after → HasWorkerRuns settings opening id.1 coming written faults kept before after
+  unfolding worker_run_of
+  worker_runs_of [] [] start hired listeners served roles = record { worker_runs = []; are = tt; roles = refl; come = refl; begun = tt; numbered = tt }
+  worker_runs_of [] (new ∷ after) start hired listeners served roles = absurd served
+  worker_runs_of (old ∷ before) [] start hired listeners served roles = absurd served
+  worker_runs_of (old ∷ before) (new ∷ after) start hired listeners served roles =
+      let rest = worker_runs_of before after start hired.1 listeners.1 served.1 roles.1 in
+      let one = worker_run_of old new start hired.0 listeners.0 served.0 in
       let number = number_stays old new served.0 in record {
-        stints = one ∷ rest.stints;
+        worker_runs = one ∷ rest.worker_runs;
         are = (record { pass_is = refl; role_is = sym roles.0; written_is = refl; faults_are = refl; reports_are = refl; end_is = refl }, rest.are);
         roles = ap (λ l. old.role ∷ l) rest.roles;
         come = ap (λ l. coming old.listener ∷ l) rest.come;

@@ -4,11 +4,11 @@ use Rattle.std.proofs.lemmas.List.{take-append-le}
 use Rattle.std.specs.Io.KnownBytes.{Appends}
 use Rattle.command_core.specs.Seen.{OutputSeen}
 use Rattle.command_core.specs.Endings.{IsWritten, IsCut}
-use Rattle.command_core.specs.Answers.{Tells}
+use Rattle.command_core.specs.Answers.{Writes}
 use Rattle.command_core.proofs.Appending.{written_more, cut_more}
 
 -- after a prefix
-pub told_behind : (start mid after : OutputSeen) (front bytes : List ℕ) (wanted status : ℕ) → IsWritten start mid front → Tells wanted bytes mid after status → Tells wanted (front ++ bytes) start after status
+pub told_behind : (start mid after : OutputSeen) (front bytes : List ℕ) (wanted status : ℕ) → IsWritten start mid front → Writes wanted bytes mid after status → Writes wanted (front ++ bytes) start after status
 told_behind start mid after front bytes wanted status w (inl h) = inl (h.0, written_more start mid after front bytes w h.1)
 told_behind start mid after front bytes wanted status w (inr h) = inr (h.0, cut_more start mid after front bytes w h.1)
 

@@ -4,7 +4,7 @@ use Rattle.share_lock.specs.Known.{fresh}
 use Rattle.share_lock.specs.Passes.{lock_id, passes_of, known, IsReady}
 use Rattle.share_crew.specs.declared.opening.LockedShare.{LockedShare}
 use Rattle.share_crew.specs.declared.opening.WorkerBuffers.{WorkerBuffers}
-use Rattle.command_core.specs.Answers.{Tells}
+use Rattle.command_core.specs.Answers.{Writes}
 use Rattle.command_core.specs.Endings.{IsWritten, IsCut}
 use Rattle.command_core.specs.Faults.{memory_line}
 use Rattle.command_core.specs.Seen.{OutputSeen}
@@ -27,8 +27,8 @@ module _ {D : Type 0} where
 
   -- the share is under its lock after its line was written; or the output failed in that line, or an allocation after
   -- it
-  abbrev pub Announces : (passes : ℕ) → Shared → WorkerBuffers D → (line : List ℕ) → OutputSeen → OutputSeen → Result (LockedShare D) ℕ → Type 0
-  Announces passes share room line before after result =
+  abbrev pub WritesAndLocks : (passes : ℕ) → Shared → WorkerBuffers D → (line : List ℕ) → OutputSeen → OutputSeen → Result (LockedShare D) ℕ → Type 0
+  WritesAndLocks passes share room line before after result =
       MatchResult result
       (λ begun. IsBegun passes share room begun × IsWritten before after line)
-      (λ status. ((status ≡ 5) × IsCut before after line) ⊎ Tells 9 (line ++ memory_line) before after status)
+      (λ status. ((status ≡ 5) × IsCut before after line) ⊎ Writes 9 (line ++ memory_line) before after status)

@@ -15,12 +15,12 @@ use Rattle.share_server.specs.Passes.{Pass}
 use Rattle.share_workers.specs.declared.worker.Worker.{Worker}
 use Rattle.share_workers.specs.declared.worker.WorkerEnd.TheVariants.{Running}
 use Rattle.share_workers.specs.Ends.{WorkerServed}
-use Rattle.share_crew.specs.Listeners.{CountsShut}
-use Rattle.share_crew.specs.Stints.{Stint, Differ, numbers_of_all, returns_of}
+use Rattle.share_crew.specs.Listeners.{CountsListenerFaults}
+use Rattle.share_crew.specs.WorkerRuns.{WorkerRun, AreDistinct, numbers_of_all, returns_of}
 
 module _ {D : Type 0} where
   -- a worker that has not begun, with a new lock handle that has seen what another has
-  pub record IsHired (id : LockId) (k : Pass) (worker : Worker D) : Type 0 where
+  pub record IsNewWorker (id : LockId) (k : Pass) (worker : Worker D) : Type 0 where
     pub ready : IsReady id worker.pass
     pub pass : known worker.pass ≡ fresh (known worker.pass).number k.settings k.seen
     pub some : 1 ≤ (known worker.pass).number
@@ -29,16 +29,16 @@ module _ {D : Type 0} where
     pub running : worker.end ≡ Running
 
   -- a worker for each listener was appended
-  pub record HasHired (id : LockId) (k : Pass) (role : Role) (listeners : List D) (before after : List (Worker D)) : Type 0 where
+  pub record AddsWorkers (id : LockId) (k : Pass) (role : Role) (listeners : List D) (before after : List (Worker D)) : Type 0 where
     pub added : List (Worker D)
     pub are : after ≡ before ++ added
-    pub hired : All (IsHired id k) added
+    pub hired : All (IsNewWorker id k) added
     pub listeners_are : map (λ worker. worker.listener) added ≡ listeners
     pub roles_are : map (λ worker. worker.role) added ≡ map (λ listener. role) listeners
 
   -- all workers of a share, for these listeners and roles
   pub record IsStaff (id : LockId) (k : Pass) (roles : List Role) (listeners : List D) (crew : List (Worker D)) : Type 0 where
-    pub hired : All (IsHired id k) crew
+    pub hired : All (IsNewWorker id k) crew
     pub listeners_are : map (λ worker. worker.listener) crew ≡ listeners
     pub roles_are : map (λ worker. worker.role) crew ≡ roles
 
@@ -47,18 +47,18 @@ module _ {D : Type 0} where
   HasEnded coming written faults old new =
       WorkerServed old.role (known old.pass) (known new.pass) (coming old.listener) (coming new.listener) (written old.listener) (written new.listener) (faults old.listener) (faults new.listener) new.reports.items new.end
 
-  -- a worker that has ended, and its stint
-  pub record IsOf {settings : Settings} {opening : List Entry} (written : D → Option (List Returned)) (faults : D → ℕ) (stint : Stint settings opening) (worker : Worker D) : Type 0 where
-    pub pass_is : stint.pass ≡ known worker.pass
-    pub role_is : stint.role ≡ worker.role
-    pub written_is : stint.written ≡ written worker.listener
-    pub faults_are : stint.faults ≡ faults worker.listener
-    pub reports_are : stint.reports ≡ worker.reports.items
-    pub end_is : stint.end ≡ worker.end
+  -- a worker that has ended, and its worker run
+  pub record IsOf {settings : Settings} {opening : List Entry} (written : D → Option (List Returned)) (faults : D → ℕ) (worker_run : WorkerRun settings opening) (worker : Worker D) : Type 0 where
+    pub pass_is : worker_run.pass ≡ known worker.pass
+    pub role_is : worker_run.role ≡ worker.role
+    pub written_is : worker_run.written ≡ written worker.listener
+    pub faults_are : worker_run.faults ≡ faults worker.listener
+    pub reports_are : worker_run.reports ≡ worker.reports.items
+    pub end_is : worker_run.end ≡ worker.end
 
 -- no handle was joined to it, and the history continues what it had seen
-abbrev pub GoesOn : List Entry → Pass → Type 0
-GoesOn history pass = (pass.taken_in ≡ []) × Continues maker (numbers_of pass) pass.seen history
+abbrev pub ContinuesHistory : List Entry → Pass → Type 0
+ContinuesHistory history pass = (pass.taken_in ≡ []) × Continues maker (numbers_of pass) pass.seen history
 
 -- some handles were joined to a handle
 pub record HasJoined (k k' : Pass) (passes : List Pass) : Type 0 where
@@ -66,12 +66,12 @@ pub record HasJoined (k k' : Pass) (passes : List Pass) : Type 0 where
   pub settings_stay : k'.settings ≡ k.settings
   pub taken : k'.taken_in ≡ k.taken_in ++ numbers_of_all passes
   pub front : Continues maker (numbers_of k) k.seen k'.seen
-  pub fronts : AllByRecursion (GoesOn k'.seen) passes
-  pub differ : k.taken_in ≡ [] → Differ (k.number ∷ numbers_of_all passes)
+  pub fronts : AllByRecursion (ContinuesHistory k'.seen) passes
+  pub differ : k.taken_in ≡ [] → AreDistinct (k.number ∷ numbers_of_all passes)
 
 module _ {settings : Settings} {opening : List Entry} where
-  -- the listeners of some stints were closed
-  pub record HasShut (written written' : Option (List Returned)) (faults faults' : ℕ) (stints : List (Stint settings opening)) : Type 0 where
-    pub written_grows : (kept : Option (List Returned)) (more : List Returned) → AllByRecursion (λ stint. BeginsEmpty kept stint.begun) stints → Grows kept written more
-        → Grows kept written' (more ++ flat_map returns_of stints)
-    pub counts : CountsShut faults faults' (map (λ stint. stint.end) stints)
+  -- the listeners of some worker runs were closed
+  pub record HasClosedListeners (written written' : Option (List Returned)) (faults faults' : ℕ) (worker_runs : List (WorkerRun settings opening)) : Type 0 where
+    pub written_grows : (kept : Option (List Returned)) (more : List Returned) → AllByRecursion (λ worker_run. BeginsEmpty kept worker_run.begun) worker_runs → Grows kept written more
+        → Grows kept written' (more ++ flat_map returns_of worker_runs)
+    pub counts : CountsListenerFaults faults faults' (map (λ worker_run. worker_run.end) worker_runs)

@@ -1,7 +1,7 @@
 pub mod Lines
 pub mod Verdicts
 pub mod Listeners
-pub mod Stints
+pub mod WorkerRuns
 pub mod Crews
 pub mod Gathered
 pub mod Begun

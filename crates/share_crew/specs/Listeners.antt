@@ -17,8 +17,8 @@ module _ {D : Type 0} where
   AreNew written faults kept listeners = All (IsNew written faults kept) listeners
 
 -- the error counter of a network rises exactly if a worker ended because its listener failed
-abbrev pub CountsShut : ℕ → ℕ → List WorkerEnd → Type 0
-CountsShut before after ends = MatchBool (has_end AcceptFault ends) (Rose before after) (after ≡ before)
+abbrev pub CountsListenerFaults : ℕ → ℕ → List WorkerEnd → Type 0
+CountsListenerFaults before after ends = MatchBool (has_end AcceptFault ends) (Rose before after) (after ≡ before)
 
 -- the listeners have the connections that the network's list has for them
 abbrev pub HaveLinks : Option (List (List (List ℕ))) → List (Option (List (List ℕ))) → Type 0

@@ -9,7 +9,7 @@ ghost use Rattle.share_lock.specs.Passes.{lock_id, passes_of, known, IsReady};
 ghost use Rattle.share_replies.specs.Settings.{Settings};
 ghost use Rattle.share_server.specs.Kept.{Keeping};
 ghost use Rattle.share_workers.specs.Ends.{is_worker_loss};
-ghost use Rattle.share_crew.specs.Crews.{IsHired, HasEnded};
+ghost use Rattle.share_crew.specs.Crews.{IsNewWorker, HasEnded};
 ghost use Rattle.share_crew.specs.Listeners.{AreNew};
 ghost use Rattle.share_crew.specs.Lines.{links_in, requests_in};
 ghost use Rattle.share_crew.specs.Gathered.{HasGathered};
@@ -29,7 +29,7 @@ use std::time::Clock;
 
 /// Lets each worker serve its connections in its own thread, and `partner` work in this one. Returns when all have
 /// ended.
-pub fn work_beside<D: Listener + Drop + Send, P: Partner, R: Threads + Wait + Clock + Sync>(
+pub fn run_with_partner<D: Listener + Drop + Send, P: Partner, R: Threads + Wait + Clock + Sync>(
     rt: &R,
     alloc: Global,
     lock: &ShareLock<Share>,
@@ -63,7 +63,7 @@ pub fn work_beside<D: Listener + Drop + Send, P: Partner, R: Threads + Wait + Cl
 
 /// Lets each worker of `crew` serve its connections in its own thread, and in this one `worker`, whose edits `keeper`
 /// keeps. Returns when all have ended.
-pub fn keep_beside<D: Listener + Drop + Send, F: Keeps, R: Threads + Wait + Clock + Sync>(
+pub fn run_with_editor<D: Listener + Drop + Send, F: Keeps, R: Threads + Wait + Clock + Sync>(
     rt: &R,
     alloc: Global,
     lock: &ShareLock<Share>,
@@ -124,7 +124,7 @@ pub fn run_workers<N: Net, P: Partner, R: Threads + Wait + Clock + Sync>(
     partner: &mut P,
 ) -> Gathered
     requires ready { IsReady (lock_id begun.lock) begun.first }
-    requires hired { All (IsHired (lock_id begun.lock) (known begun.first)) begun.room.crew.items }
+    requires hired { All (IsNewWorker (lock_id begun.lock) (known begun.first)) begun.room.crew.items }
     requires empty { begun.room.links.items ≡ [] }
     requires room { vec_len begun.room.crew ≤ vec_capacity begun.room.links }
     requires partner { P.ready (lock_id begun.lock) partner.old }
@@ -140,7 +140,7 @@ pub fn run_workers<N: Net, P: Partner, R: Threads + Wait + Clock + Sync>(
     ensures links { length begun.room.crew.items ≤ 72 → links_in result.links < 2 ^ 64 }
     ensures requests { length begun.room.crew.items ≤ 72 → requests_in result.links < 2 ^ 64 }
 {
-    work_beside(
+    run_with_partner(
         rt,
         alloc,
         &begun.lock,

@@ -10,10 +10,10 @@ ghost use Rattle.share_replies.specs.Settings.{Settings};
 ghost use Rattle.share_replies.specs.Laws.{maker};
 ghost use Rattle.share_workers.specs.declared.worker.Worker.{Worker as Member};
 ghost use Rattle.share_server.specs.Passes.{Pass as Seen};
-ghost use Rattle.share_crew.specs.Crews.{IsHired, HasEnded, IsOf, HasJoined, HasShut};
+ghost use Rattle.share_crew.specs.Crews.{IsNewWorker, HasEnded, IsOf, HasJoined, HasClosedListeners};
 ghost use Rattle.share_crew.specs.Listeners.{AreNew};
 ghost use Rattle.share_crew.specs.Lines.{links_in, requests_in};
-ghost use Rattle.share_crew.specs.Stints.{Stint, IsHistoryOf, IsNumbered, passes_in};
+ghost use Rattle.share_crew.specs.WorkerRuns.{WorkerRun, IsHistoryOf, IsNumbered, passes_in};
 ghost use Rattle.share_crew.specs.Gathered.{HasGathered};
 
 use crate::opening::{LockedShare, WorkerBuffers};
@@ -46,7 +46,7 @@ pub fn gather<N: Net>(net: &mut N, begun: LockedShare<N::D>) -> Gathered
     ensures ready { IsReady (lock_id result.lock) result.first }
     ensures gathered { (settings : Settings) (opening : List Entry) (kept : Option (List Returned))
         (before : List (Member N.D))
-        → known begun.first ≡ fresh 0 settings opening → All (IsHired (lock_id begun.lock) (known begun.first)) before
+        → known begun.first ≡ fresh 0 settings opening → All (IsNewWorker (lock_id begun.lock) (known begun.first)) before
         → AreNew N.D.written N.D.faults kept (map (λ w. w.listener) before)
         → AllZip (HasEnded N.D.coming N.D.written N.D.faults) before begun.room.crew.items
         → AllZip (λ old new. new.role ≡ old.role) before begun.room.crew.items
@@ -90,12 +90,12 @@ fn join_each<N: Net>(
     requires room { vec_len links.old + vec_len crew ≤ vec_capacity links.old }
     ensures ready { IsReady (lock_id lock.now) first.new }
     ensures joined { (settings : Settings) (opening : List Entry)
-        (stints : List (Stint settings opening))
-        → AllZip (IsOf N.D.written N.D.faults) stints crew.items → HasJoined (known first.old) (known first.new) (passes_in stints) }
+        (worker_runs : List (WorkerRun settings opening))
+        → AllZip (IsOf N.D.written N.D.faults) worker_runs crew.items → HasJoined (known first.old) (known first.new) (passes_in worker_runs) }
     ensures shut { (settings : Settings) (opening : List Entry)
-        (stints : List (Stint settings opening))
-        → AllZip (IsOf N.D.written N.D.faults) stints crew.items
-        → HasShut (N.written net.old) (N.written net.new) (N.faults net.old) (N.faults net.new) stints }
+        (worker_runs : List (WorkerRun settings opening))
+        → AllZip (IsOf N.D.written N.D.faults) worker_runs crew.items
+        → HasClosedListeners (N.written net.old) (N.written net.new) (N.faults net.old) (N.faults net.new) worker_runs }
     ensures asked { N.asked net.new ≡ N.asked net.old }
     ensures closes { N.open_count net.new ≡ N.open_count net.old - length crew.items }
     ensures links { map (λ l. l.items) links.new.items
@@ -118,12 +118,12 @@ fn join_each<N: Net>(
 /// Takes the share out of its lock, in a last turn of the handle to which all others were joined.
 pub fn share_of<R: Wait>(rt: &R, lock: &ShareLock<Share>, first: &mut Pass<Share>) -> Share
     requires ready { IsReady (lock_id lock.now) first.old }
-    ensures { (settings : Settings) (opening : List Entry) (stints : List (Stint settings opening))
+    ensures { (settings : Settings) (opening : List Entry) (worker_runs : List (WorkerRun settings opening))
         (others : List Seen)
-        → All (λ e. maker e ≡ 0) opening → HasJoined (fresh 0 settings opening) (known first.old) (passes_in stints ++ others)
-        → AllByRecursion (IsNumbered (passes_of lock.now)) (passes_in stints ++ others)
-        → passes_of lock.now ≡ length (passes_in stints ++ others) + 1
-        → IsHistoryOf (length (passes_in stints ++ others)) result.history stints others }
+        → All (λ e. maker e ≡ 0) opening → HasJoined (fresh 0 settings opening) (known first.old) (passes_in worker_runs ++ others)
+        → AllByRecursion (IsNumbered (passes_of lock.now)) (passes_in worker_runs ++ others)
+        → passes_of lock.now ≡ length (passes_in worker_runs ++ others) + 1
+        → IsHistoryOf (length (passes_in worker_runs ++ others)) result.history worker_runs others }
 {
     let turn = lock.take(rt, first);
     lock.end(turn)

@@ -3,7 +3,7 @@
 ghost use Rattle.std.specs.Prelude.{◌≡◌, ◌<◌, ◌≤◌, ◌+◌, [], vec_len, vec_capacity};
 ghost use Rattle.share_lock.specs.Known.{fresh};
 ghost use Rattle.share_lock.specs.Passes.{lock_id, passes_of, known, IsReady};
-ghost use Rattle.share_crew.specs.Crews.{HasHired};
+ghost use Rattle.share_crew.specs.Crews.{AddsWorkers};
 
 use share_asks::Role;
 use share_core::Share;
@@ -26,7 +26,7 @@ pub fn add_workers<D: Drop, R: Wait>(
     requires room { vec_len crew.old + vec_len listeners ≤ vec_capacity crew.old }
     ensures ready { IsReady (lock_id lock.now) first.new }
     ensures pass { known first.new ≡ known first.old }
-    ensures hired { HasHired (lock_id lock.now)
+    ensures hired { AddsWorkers (lock_id lock.now)
         (known first.old) role listeners.items crew.old.items crew.new.items }
     ensures len { vec_len crew.new ≡ vec_len crew.old + vec_len listeners }
     ensures room { vec_capacity crew.new ≡ vec_capacity crew.old }

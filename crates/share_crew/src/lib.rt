@@ -12,12 +12,12 @@ mod outcome;
 mod partner;
 mod verdict;
 
-pub use beside::{keep_beside, run_workers, work_beside};
+pub use beside::{run_with_editor, run_workers, run_with_partner};
 pub use gathering::{Gathered, gather, share_of};
 pub use hiring::add_workers;
 pub use lines::ended_line_of;
 pub use listeners::close_all;
-pub use opening::{LockedShare, WorkerBuffers, announced};
+pub use opening::{LockedShare, WorkerBuffers, write_and_lock};
 pub use outcome::{LinkReports, Outcome};
 pub use partner::Partner;
 pub use verdict::{Verdict, verdict_of};

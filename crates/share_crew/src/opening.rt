@@ -3,7 +3,7 @@
 ghost use Rattle.std.specs.Prelude.{◌≡◌, ◌≤◌, All, IfOk};
 ghost use Rattle.command_core.specs.Seen.{output_of};
 ghost use Rattle.share_replies.specs.Laws.{maker};
-ghost use Rattle.share_crew.specs.Begun.{Announces, HasRoom};
+ghost use Rattle.share_crew.specs.Begun.{WritesAndLocks, HasRoom};
 
 use command_core::out_of_memory;
 use outside_net::{Sink, put_all};
@@ -48,7 +48,7 @@ impl<D: Drop> WorkerBuffers<D> {
 ///
 /// Returns the status that the program ends with: 5 if the output failed, and 9 if an allocation failed and the line of
 /// that was written.
-pub fn announced<W: Sink, D: Drop>(
+pub fn write_and_lock<W: Sink, D: Drop>(
     alloc: Global,
     output: &mut W,
     line: &[u8],
@@ -58,7 +58,7 @@ pub fn announced<W: Sink, D: Drop>(
 ) -> Result<LockedShare<D>, u8>
     requires passes { 1 ≤ passes }
     requires opening { All (λ e. maker e ≡ 0) share.history }
-    ensures { Announces passes share room line.now
+    ensures { WritesAndLocks passes share room line.now
         (output_of W.Sink output.old)
         (output_of W.Sink output.new)
         result }

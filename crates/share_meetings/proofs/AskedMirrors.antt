@@ -10,7 +10,7 @@ use Rattle.share_asks.specs.Valid.{MayAsk}
 use Rattle.http_client.specs.Requests.{HasListNumber, IsHost, IsNamed, IsWithinLimits}
 use Rattle.http_client.specs.Targets.{IsText}
 use Rattle.mirror_core.specs.Mirrored.{Mirrored}
-use Rattle.link_commands.specs.Looks.{AsksMirror, AsksQuery, meta_asked}
+use Rattle.link_commands.specs.Looks.{AsksMirror, AsksQuery, meta_or_default}
 use Rattle.share_meetings.specs.Mirrors.{CanBeAsked}
 use Rattle.query_laws.proofs.Utf8Texts.{printed_in_utf8}
 
@@ -34,7 +34,7 @@ text_of None (Some q) asks utf8 = absurd asks
 text_of (Some text) None asks utf8 = absurd asks
 text_of (Some text) (Some q) asks utf8 = printed_in_utf8 text q utf8 asks
 
-named_of : (text : Option (List ℕ)) (shown : Meta) → meta_asked text ≡ Some shown → IsNamed shown
+named_of : (text : Option (List ℕ)) (shown : Meta) → meta_or_default text ≡ Some shown → IsNamed shown
 named_of None shown is = ([], is)
 named_of (Some text) shown is = (text, is)
 

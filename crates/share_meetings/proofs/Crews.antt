@@ -13,7 +13,7 @@ use Rattle.share_server.specs.Serving.{limit_of}
 use Rattle.share_workers.specs.Works.{Came, LinkAt, LinksAt}
 use Rattle.command_core.specs.Seen.{NetSeen}
 use Rattle.share_crew.specs.Listeners.{HaveLinks}
-use Rattle.share_crew.specs.Stints.{Stint, returns_of}
+use Rattle.share_crew.specs.WorkerRuns.{WorkerRun, returns_of}
 use Rattle.share_meetings.specs.Meetings.{IsServedOn, place_of}
 
 -- ---- elements of lists
@@ -92,66 +92,66 @@ came_first to_come (Some now) coming inputs n input is came less there =
 -- ---- the worker
 
 module _ {settings : Settings} {opening : List Entry} where
-  abbrev pub reports_of : Stint settings opening → List LinkReport
-  reports_of stint = stint.reports
+  abbrev pub reports_of : WorkerRun settings opening → List LinkReport
+  reports_of worker_run = worker_run.reports
 
   -- a worker of the crew, with what was written on its connection
-  record IsWorker (crew : List (Stint settings opening)) (worker number : ℕ) (reports : List LinkReport) (returned : Returned) : Type 0 where
-    stint : Stint settings opening
-    is_stint : slice_get crew worker ≡ Some stint
-    reports_are : stint.reports ≡ reports
-    given : slice_get (returns_of stint) number ≡ Some returned
+  record IsWorker (crew : List (WorkerRun settings opening)) (worker number : ℕ) (reports : List LinkReport) (returned : Returned) : Type 0 where
+    worker_run : WorkerRun settings opening
+    is_worker_run : slice_get crew worker ≡ Some worker_run
+    reports_are : worker_run.reports ≡ reports
+    given : slice_get (returns_of worker_run) number ≡ Some returned
 
-  every_return : (stint : Stint settings opening) → length (returns_of stint) ≡ length stint.reports
-  every_return stint =
-      (as_many settings stint.pass.number stint.role 262144 stint.pass.seen stint.served.works.inputs stint.reports stint.served.works.returns stint.served.works.links).1
+  every_return : (worker_run : WorkerRun settings opening) → length (returns_of worker_run) ≡ length worker_run.reports
+  every_return worker_run =
+      (as_many settings worker_run.pass.number worker_run.role 262144 worker_run.pass.seen worker_run.served.works.inputs worker_run.reports worker_run.served.works.returns worker_run.served.works.links).1
 
-  at_worker : (crew : List (Stint settings opening)) (others : List Returned) (worker number : ℕ) (reports : List LinkReport) (report : LinkReport) (returned : Returned)
-      → slice_get (map (λ (stint : Stint settings opening). stint.reports) crew) worker ≡ Some reports → slice_get reports number ≡ Some report
-      → slice_get (flat_map returns_of crew ++ others) (place_of (map (λ (stint : Stint settings opening). stint.reports) crew) worker number) ≡ Some returned
+  at_worker : (crew : List (WorkerRun settings opening)) (others : List Returned) (worker number : ℕ) (reports : List LinkReport) (report : LinkReport) (returned : Returned)
+      → slice_get (map (λ (worker_run : WorkerRun settings opening). worker_run.reports) crew) worker ≡ Some reports → slice_get reports number ≡ Some report
+      → slice_get (flat_map returns_of crew ++ others) (place_of (map (λ (worker_run : WorkerRun settings opening). worker_run.reports) crew) worker number) ≡ Some returned
       → IsWorker crew worker number reports returned
   at_worker [] others worker number reports report returned worked told given = absurd (cc worked)
-  at_worker (stint ∷ crew) others zero number reports report returned worked told given =
-      let same : stint.reports ≡ reports = cc worked in
+  at_worker (worker_run ∷ crew) others zero number reports report returned worked told given =
+      let same : worker_run.reports ≡ reports = cc worked in
       let within = slice_get_within reports number report told in
-      let less : number < length (returns_of stint) = omega (arith, within, every_return stint, ap (λ (xs : List LinkReport). length xs) same) in
+      let less : number < length (returns_of worker_run) = omega (arith, within, every_return worker_run, ap (λ (xs : List LinkReport). length xs) same) in
       record {
-        stint = stint;
-        is_stint = refl;
+        worker_run = worker_run;
+        is_worker_run = refl;
         reports_are = same;
         given =
-            sym (get_first (returns_of stint) (flat_map returns_of crew ++ others) number less)
-            ∙ ap (λ (xs : List Returned). slice_get xs number) (sym (append_assoc (returns_of stint) (flat_map returns_of crew) others)) ∙ given;
+            sym (get_first (returns_of worker_run) (flat_map returns_of crew ++ others) number less)
+            ∙ ap (λ (xs : List Returned). slice_get xs number) (sym (append_assoc (returns_of worker_run) (flat_map returns_of crew) others)) ∙ given;
       }
-  at_worker (stint ∷ crew) others (suc worker) number reports report returned worked told given =
-      let place : ℕ = place_of (map (λ (stint : Stint settings opening). stint.reports) crew) worker number in
+  at_worker (worker_run ∷ crew) others (suc worker) number reports report returned worked told given =
+      let place : ℕ = place_of (map (λ (worker_run : WorkerRun settings opening). worker_run.reports) crew) worker number in
       let rest = at_worker crew others worker number reports report returned worked told
-      (sym (get_further (returns_of stint) (flat_map returns_of crew ++ others) place)
-      ∙ ap (λ (xs : List Returned). slice_get xs (length (returns_of stint) + place)) (sym (append_assoc (returns_of stint) (flat_map returns_of crew) others))
-      ∙ ap (λ (n : ℕ). slice_get ((returns_of stint ++ flat_map returns_of crew) ++ others) (n + place)) (every_return stint) ∙ given) in
-      record { stint = rest.stint; is_stint = rest.is_stint; reports_are = rest.reports_are; given = rest.given }
+      (sym (get_further (returns_of worker_run) (flat_map returns_of crew ++ others) place)
+      ∙ ap (λ (xs : List Returned). slice_get xs (length (returns_of worker_run) + place)) (sym (append_assoc (returns_of worker_run) (flat_map returns_of crew) others))
+      ∙ ap (λ (n : ℕ). slice_get ((returns_of worker_run ++ flat_map returns_of crew) ++ others) (n + place)) (every_return worker_run) ∙ given) in
+      record { worker_run = rest.worker_run; is_worker_run = rest.is_worker_run; reports_are = rest.reports_are; given = rest.given }
 
-  coming_at : (crew : List (Stint settings opening)) (listeners : List (List (List ℕ))) (worker : ℕ) (stint : Stint settings opening) (coming : List (List ℕ))
-      → map (λ (stint : Stint settings opening). stint.to_come) crew ≡ map (λ i. Some i) (take (length (map (λ (stint : Stint settings opening). stint.to_come) crew)) listeners)
-      → slice_get crew worker ≡ Some stint → slice_get listeners worker ≡ Some coming → stint.to_come ≡ Some coming
-  coming_at crew listeners worker stint coming are at there =
-      known_at (map (λ (stint : Stint settings opening). stint.to_come) crew) listeners worker stint.to_come coming are (mapped crew worker stint at) there
+  coming_at : (crew : List (WorkerRun settings opening)) (listeners : List (List (List ℕ))) (worker : ℕ) (worker_run : WorkerRun settings opening) (coming : List (List ℕ))
+      → map (λ (worker_run : WorkerRun settings opening). worker_run.to_come) crew ≡ map (λ i. Some i) (take (length (map (λ (worker_run : WorkerRun settings opening). worker_run.to_come) crew)) listeners)
+      → slice_get crew worker ≡ Some worker_run → slice_get listeners worker ≡ Some coming → worker_run.to_come ≡ Some coming
+  coming_at crew listeners worker worker_run coming are at there =
+      known_at (map (λ (worker_run : WorkerRun settings opening). worker_run.to_come) crew) listeners worker worker_run.to_come coming are (mapped crew worker worker_run at) there
     where
-      mapped : (crew : List (Stint settings opening)) (worker : ℕ) (stint : Stint settings opening) → slice_get crew worker ≡ Some stint
-          → slice_get (map (λ (stint : Stint settings opening). stint.to_come) crew) worker ≡ Some stint.to_come
-      mapped [] worker stint at = absurd (cc at)
-      mapped (x ∷ crew) zero stint at = let same : x ≡ stint = cc at in ap (λ (y : Stint settings opening). Some y.to_come) same
-      mapped (x ∷ crew) (suc worker) stint at = mapped crew worker stint at
+      mapped : (crew : List (WorkerRun settings opening)) (worker : ℕ) (worker_run : WorkerRun settings opening) → slice_get crew worker ≡ Some worker_run
+          → slice_get (map (λ (worker_run : WorkerRun settings opening). worker_run.to_come) crew) worker ≡ Some worker_run.to_come
+      mapped [] worker worker_run at = absurd (cc at)
+      mapped (x ∷ crew) zero worker_run at = let same : x ≡ worker_run = cc at in ap (λ (y : WorkerRun settings opening). Some y.to_come) same
+      mapped (x ∷ crew) (suc worker) worker_run at = mapped crew worker worker_run at
 
   -- the worker that served a connection, and its connection
-  pub record IsWorkersLink (crew : List (Stint settings opening)) (worker : ℕ) (input : List ℕ) (report : LinkReport) (returned : Returned) : Type 0 where
-    pub stint : Stint settings opening
-    pub is_stint : slice_get crew worker ≡ Some stint
+  pub record IsWorkersLink (crew : List (WorkerRun settings opening)) (worker : ℕ) (input : List ℕ) (report : LinkReport) (returned : Returned) : Type 0 where
+    pub worker_run : WorkerRun settings opening
+    pub is_worker_run : slice_get crew worker ≡ Some worker_run
     pub limit : ℕ
-    pub link : LinkAt settings stint.pass.number limit stint.role stint.pass.seen input report returned
+    pub link : LinkAt settings worker_run.pass.number limit worker_run.role worker_run.pass.seen input report returned
 
-  pub worker_in : (crew : List (Stint settings opening)) (net net' : NetSeen) (links : List (List LinkReport)) (others : List Returned) (input output : List ℕ)
-      → links ≡ map (λ (stint : Stint settings opening). stint.reports) crew → HaveLinks net.listener_links (map (λ (stint : Stint settings opening). stint.to_come) crew)
+  pub worker_in : (crew : List (WorkerRun settings opening)) (net net' : NetSeen) (links : List (List LinkReport)) (others : List Returned) (input output : List ℕ)
+      → links ≡ map (λ (worker_run : WorkerRun settings opening). worker_run.reports) crew → HaveLinks net.listener_links (map (λ (worker_run : WorkerRun settings opening). worker_run.to_come) crew)
       → Grows net.written net'.written (flat_map returns_of crew ++ others) → (on : IsServedOn net net' links input output)
       → IsWorkersLink crew on.worker input on.report (output, on.faulted)
   worker_in crew net net' links others input output are have grows on =
@@ -162,16 +162,16 @@ module _ {settings : Settings} {opening : List Entry} where
       (subst (λ (ls : List (List LinkReport)). slice_get ls on.worker ≡ Some on.reports) are on.worked) on.reported
       (subst (λ (ls : List (List LinkReport)). slice_get (flat_map returns_of crew ++ others) (place_of ls on.worker on.number) ≡ Some (output, on.faulted)) are
       (subst (λ (more : List Returned). slice_get more (place_of links on.worker on.number) ≡ Some (output, on.faulted)) returns on.given)) in
-      let stint = worker.stint in
-      let works = stint.served.works in
-      let to_come : stint.to_come ≡ Some on.coming =
-      coming_at crew on.listeners on.worker stint on.coming
-      (subst (λ (ls : Option (List (List (List ℕ)))). HaveLinks ls (map (λ (stint : Stint settings opening). stint.to_come) crew)) on.listeners_are have) worker.is_stint on.listener in
-      let told : slice_get stint.reports on.number ≡ Some on.report =
+      let worker_run = worker.worker_run in
+      let works = worker_run.served.works in
+      let to_come : worker_run.to_come ≡ Some on.coming =
+      coming_at crew on.listeners on.worker worker_run on.coming
+      (subst (λ (ls : Option (List (List (List ℕ)))). HaveLinks ls (map (λ (worker_run : WorkerRun settings opening). worker_run.to_come) crew)) on.listeners_are have) worker.is_worker_run on.listener in
+      let told : slice_get worker_run.reports on.number ≡ Some on.report =
       subst (λ (rs : List LinkReport). slice_get rs on.number ≡ Some on.report) (sym worker.reports_are) on.reported in
-      let many = as_many settings stint.pass.number stint.role 262144 stint.pass.seen works.inputs stint.reports works.returns works.links in
-      let within = slice_get_within stint.reports on.number on.report told in
+      let many = as_many settings worker_run.pass.number worker_run.role 262144 worker_run.pass.seen works.inputs worker_run.reports works.returns works.links in
+      let within = slice_get_within worker_run.reports on.number on.report told in
       let less : on.number < length works.inputs = omega (arith, within, many.0) in
-      let link = link_at settings stint.pass.number stint.role 262144 stint.pass.seen works.inputs stint.reports works.returns on.number input on.report (output, on.faulted) works.links
-      (came_first stint.to_come stint.left on.coming works.inputs on.number input to_come works.came less on.came) told worker.given in
-      record { stint = stint; is_stint = worker.is_stint; limit = link.0; link = link.1 }
+      let link = link_at settings worker_run.pass.number worker_run.role 262144 worker_run.pass.seen works.inputs worker_run.reports works.returns on.number input on.report (output, on.faulted) works.links
+      (came_first worker_run.to_come worker_run.left on.coming works.inputs on.number input to_come works.came less on.came) told worker.given in
+      record { worker_run = worker_run; is_worker_run = worker.is_worker_run; limit = link.0; link = link.1 }

@@ -7,7 +7,7 @@ use Rattle.command_core.specs.declared.fault.Fault.{Fault}
 use Rattle.command_core.specs.declared.fault.Fault.TheVariants.{Own, Read, Memory as want}
 use Rattle.command_core.specs.Endings.{Done, OutputCut, Refused as refused_ending, LineCut}
 use Rattle.command_core.specs.Faults.{fault_line, fault_status}
-use Rattle.command_core.specs.Seen.{Told}
+use Rattle.command_core.specs.Seen.{Run}
 use Rattle.mirror_core.specs.Mirrored.{Mirrored}
 use Rattle.mirror_client.specs.declared.refusal.FollowError.{FollowError}
 use Rattle.mirror_client.specs.declared.refusal.FollowError.TheVariants.{LinkFault, Memory}
@@ -23,7 +23,7 @@ use Rattle.share_meetings.specs.CommandLaws.{FollowGoesOn, ServesMirror}
 use Rattle.share_meetings.specs.ServedRuns.{ServesRun}
 use Rattle.share_meetings.proofs.Completes.{served_runs_go_on}
 
-outside : (host : List ℕ) (rounds : ℕ) (query meta : Option (List ℕ)) (target : Target) (told : Told) (e : FollowError) (front : List ℕ) (s : Settings) (h : List Entry)
+outside : (host : List ℕ) (rounds : ℕ) (query meta : Option (List ℕ)) (target : Target) (told : Run) (e : FollowError) (front : List ℕ) (s : Settings) (h : List Entry)
     (x : StopsFollowing host rounds query meta target told.before told.after e front) → ServesMirror s h rounds query meta target told → (e ≡ LinkFault) ⊎ (e ≡ Memory)
 outside host rounds query meta target told e front s h x serves =
     let run : (run : ServesRun s x.m.target x.m.query x.m.meta h serves.bytes) × (length (run.first ∷ run.others) ≡ rounds) =
@@ -32,7 +32,7 @@ outside host rounds query meta target told e front s h x serves =
     served_runs_go_on host x.m rounds (start_of x.link) x.link.taken e x.stops.now s h serves.bytes x.stops.stops (ap (λ (m : Mirrored). m.held.revision) x.for.asks.is) serves.whole
     (owed_is x.link serves.bytes (left_is told.before.around.net.next_input x.link.left serves.bytes serves.next x.for.linked.input)) run.0 run.1
 
-fault_goes_on : (host : List ℕ) (rounds : ℕ) (query meta : Option (List ℕ)) (target : Target) (told : Told) (status : ℕ) (fault : Fault FollowFault) (front : List ℕ) (s : Settings)
+fault_goes_on : (host : List ℕ) (rounds : ℕ) (query meta : Option (List ℕ)) (target : Target) (told : Run) (status : ℕ) (fault : Fault FollowFault) (front : List ℕ) (s : Settings)
     (h : List Entry) → status ≡ fault_status follow_status fault → StopsFollowBy host rounds query meta target told.before told.after fault front
     → ServesMirror s h rounds query meta target told → IsFaultless told → (status ≡ 0) ⊎ (status ≡ 9)
 fault_goes_on host rounds query meta target told status (Own (Query error)) front s h e stops serves faultless =

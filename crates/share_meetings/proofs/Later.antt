@@ -9,7 +9,7 @@ use Rattle.share_server.specs.declared.report.Served.{Served}
 use Rattle.share_server.specs.Passes.{Rises}
 use Rattle.share_server.specs.Served.{at_point}
 use Rattle.share_workers.specs.Works.{all_served}
-use Rattle.command_core.specs.Seen.{Told}
+use Rattle.command_core.specs.Seen.{Run}
 use Rattle.mirror_core.specs.Mirrored.{Mirrored}
 use Rattle.mirror_client.specs.Laws.{AreAnswers, last_point}
 use Rattle.mirror_client.specs.Steps.{with_listings}
@@ -17,7 +17,7 @@ use Rattle.share_replies.specs.Settings.{Settings}
 use Rattle.share_meetings.specs.ServedRuns.{Rise}
 use Rattle.share_meetings.specs.Mirrors.{AreListed, HeldBefore, HoldsLast, HoldsTheShare, IsListed}
 use Rattle.share_meetings.proofs.Prefixes.{last_begins}
-use Rattle.share_crew.specs.Stints.{IsPart, Stint}
+use Rattle.share_crew.specs.WorkerRuns.{IsPart, WorkerRun}
 use Rattle.serve_command.specs.declared.terms.Serving.{Serving}
 use Rattle.serve_command.specs.Runs as serve
 use Rattle.serve_command.specs.Terms.{settings_of}
@@ -106,17 +106,17 @@ last_listed h served number p (q ∷ points) are = last_listed h served (number 
 
 module _ {settings : Settings} {opening : List Entry} where
   -- the worker with these reports
-  record HasReports (crew : List (Stint settings opening)) (worker : ℕ) (reports : List LinkReport) : Type 0 where
-    stint : Stint settings opening
-    is_stint : slice_get crew worker ≡ Some stint
-    are : stint.reports ≡ reports
+  record HasReports (crew : List (WorkerRun settings opening)) (worker : ℕ) (reports : List LinkReport) : Type 0 where
+    worker_run : WorkerRun settings opening
+    is_worker_run : slice_get crew worker ≡ Some worker_run
+    are : worker_run.reports ≡ reports
 
-  stint_at : (crew : List (Stint settings opening)) (worker : ℕ) (reports : List LinkReport) → slice_get (map (λ (stint : Stint settings opening). stint.reports) crew) worker ≡ Some reports
+  worker_run_at : (crew : List (WorkerRun settings opening)) (worker : ℕ) (reports : List LinkReport) → slice_get (map (λ (worker_run : WorkerRun settings opening). worker_run.reports) crew) worker ≡ Some reports
       → HasReports crew worker reports
-  stint_at [] worker reports at = absurd (cc at)
-  stint_at (stint ∷ crew) zero reports at = record { stint = stint; is_stint = refl; are = cc at }
-  stint_at (stint ∷ crew) (suc worker) reports at =
-      let rest = stint_at crew worker reports at in record { stint = rest.stint; is_stint = rest.is_stint; are = rest.are }
+  worker_run_at [] worker reports at = absurd (cc at)
+  worker_run_at (worker_run ∷ crew) zero reports at = record { worker_run = worker_run; is_worker_run = refl; are = cc at }
+  worker_run_at (worker_run ∷ crew) (suc worker) reports at =
+      let rest = worker_run_at crew worker reports at in record { worker_run = rest.worker_run; is_worker_run = rest.is_worker_run; are = rest.are }
 
 pub later_connections_begin_well : LaterConnectionsBeginWell
 later_connections_begin_well serving told left h input output input' output' m l ls (serve.unopened stop fails unread files tells none) is on on' worker less holds =
@@ -131,25 +131,25 @@ later_connections_begin_well serving told left h input output input' output' m l
 
     -- the reports of the worker
     found : HasReports x.crew on.worker on.reports
-    found = stint_at x.crew on.worker on.reports (subst (λ (links : List (List LinkReport)). slice_get links on.worker ≡ Some on.reports) x.links on.worked)
+    found = worker_run_at x.crew on.worker on.reports (subst (λ (links : List (List LinkReport)). slice_get links on.worker ≡ Some on.reports) x.links on.worked)
 
     alike : on'.reports ≡ on.reports
     alike =
         let both : Some on'.reports ≡ Some on.reports =
         sym on'.worked ∙ ap (λ (n : ℕ). slice_get left.links n) worker ∙ on.worked in cc
 
-    part : IsPart x.history found.stint
-    part = each_at (λ stint. IsPart x.history stint) x.crew on.worker found.stint x.one.parts found.is_stint
+    part : IsPart x.history found.worker_run
+    part = each_at (λ worker_run. IsPart x.history worker_run) x.crew on.worker found.worker_run x.one.parts found.is_worker_run
 
     rises : Rises (length opened) (all_served on.reports) (length h)
     rises =
-        let seen : length found.stint.pass.seen ≤ length h = omega (
+        let seen : length found.worker_run.pass.seen ≤ length h = omega (
           arith,
           ap (λ (es : List Entry). length es) (sym same ∙ part.begins),
-          length-append found.stint.pass.seen part.later,
+          length-append found.worker_run.pass.seen part.later,
         ) in
         subst (λ (reports : List LinkReport). Rises (length opened) (all_served reports) (length h)) found.are
-        (rises_to (length opened) (length found.stint.pass.seen) (length h) (all_served found.stint.reports) seen found.stint.served.works.serves.fresh.rises)
+        (rises_to (length opened) (length found.worker_run.pass.seen) (length h) (all_served found.worker_run.reports) seen found.worker_run.served.works.serves.fresh.rises)
 
     by_points : (points : List (List Entry)) → Rise points h → AreListed h on.report.served 2 points
         → AreAnswers (settings_of serving).keep m.target m.query m.meta m.held.revision points (l ∷ ls) → HoldsLast m points (with_listings m (l ∷ ls))

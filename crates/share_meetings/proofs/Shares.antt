@@ -11,7 +11,7 @@ use Rattle.share_server.specs.declared.report.LinkReport.{LinkReport}
 use Rattle.share_server.specs.Served.{AreServed}
 use Rattle.command_core.specs.Seen.{NetSeen}
 use Rattle.share_crew.specs.Listeners.{HaveLinks}
-use Rattle.share_crew.specs.Stints.{IsPart, Stint, returns_of}
+use Rattle.share_crew.specs.WorkerRuns.{IsPart, WorkerRun, returns_of}
 use Rattle.relay_command.specs.Runs as relay
 use Rattle.relay_command.specs.Terms as relay_terms
 use Rattle.serve_command.specs.Runs as serve
@@ -28,22 +28,22 @@ each_at P (y ∷ ys) zero x each is = let same : y ≡ x = cc is in subst P same
 each_at P (y ∷ ys) (suc n) x each is = each_at P ys n x each.1 is
 
 -- a connection of a crew is one of the share
-crew_serves : {settings : Settings} {opening : List Entry} (crew : List (Stint settings opening)) (h : List Entry) (net net' : NetSeen) (links : List (List LinkReport)) (others : List Returned)
-    (input output : List ℕ) → histories.IsWhole h → AllByRecursion (IsPart h) crew → links ≡ map (λ (stint : Stint settings opening). stint.reports) crew
-    → HaveLinks net.listener_links (map (λ (stint : Stint settings opening). stint.to_come) crew) → Grows net.written net'.written (flat_map returns_of crew ++ others)
+crew_serves : {settings : Settings} {opening : List Entry} (crew : List (WorkerRun settings opening)) (h : List Entry) (net net' : NetSeen) (links : List (List LinkReport)) (others : List Returned)
+    (input output : List ℕ) → histories.IsWhole h → AllByRecursion (IsPart h) crew → links ≡ map (λ (worker_run : WorkerRun settings opening). worker_run.reports) crew
+    → HaveLinks net.listener_links (map (λ (worker_run : WorkerRun settings opening). worker_run.to_come) crew) → Grows net.written net'.written (flat_map returns_of crew ++ others)
     → (on : IsServedOn net net' links input output) → IsOfShare settings h on.report input output
 crew_serves {settings = settings} crew h net net' links others input output whole parts are have grows on =
     let at = worker_in crew net net' links others input output are have grows on in
-    let stint = at.stint in
-    let part : IsPart h stint = each_at (λ stint. IsPart h stint) crew on.worker stint parts at.is_stint in
+    let worker_run = at.worker_run in
+    let part : IsPart h worker_run = each_at (λ worker_run. IsPart h worker_run) crew on.worker worker_run parts at.is_worker_run in
     let link = at.link in
-    let number : stint.pass.number ≡ on.report.number = sym link.number in
+    let number : worker_run.pass.number ≡ on.report.number = sym link.number in
     record {
       whole = whole;
-      seen = stint.pass.seen;
+      seen = worker_run.pass.seen;
       later = part.later;
       begins = part.begins;
-      role = stint.role;
+      role = worker_run.role;
       limit = at.limit;
       link = record {
         asks = link.asks;
@@ -51,7 +51,7 @@ crew_serves {settings = settings} crew h net net' links others input output whol
         served = on.report.served;
         end = on.report.end;
         joins = link.joins;
-        are_served = subst (λ (by : ℕ). AreServed settings by stint.pass.seen link.asks on.report.served) number link.are_served;
+        are_served = subst (λ (by : ℕ). AreServed settings by worker_run.pass.seen link.asks on.report.served) number link.are_served;
         rises = link.rises;
         how = link.how;
       };

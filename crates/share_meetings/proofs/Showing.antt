@@ -23,13 +23,13 @@ use Rattle.command_core.specs.declared.fault.Fault.{Fault}
 use Rattle.command_core.specs.declared.fault.Fault.TheVariants as fault
 use Rattle.command_core.specs.Endings.{Done, Ending, IsWritten, LineCut, OutputCut, Refused}
 use Rattle.command_core.specs.Faults.{fault_line, fault_status}
-use Rattle.command_core.specs.Seen.{NetSeen, Told}
+use Rattle.command_core.specs.Seen.{NetSeen, Run}
 use Rattle.link_commands.specs.declared.follow.FollowFault.{FollowFault}
 use Rattle.link_commands.specs.declared.follow.FollowFault.TheVariants.{Query, Meta, Unreached, Link}
 use Rattle.link_commands.specs.FollowShare.{HasRounds, IsFollowBegun, IsFollowDone, IsLinkedFor, MayWant, StopsFollowBy, StopsFollowing, follow_line, follow_meaning, follow_status, lines_of}
 use Rattle.link_commands.specs.Linked.{LinkSeen, start_of}
 use Rattle.link_commands.specs.Looks.{AsksMirror}
-use Rattle.link_commands.specs.Meanings.{Happens, IsCutBehind, ending_status}
+use Rattle.link_commands.specs.Meanings.{EndsAs, IsCutBehind, ending_status}
 use Rattle.link_commands.specs.RoundLines.{round_lines, shown_rows}
 use Rattle.link_commands.proofs.LinkedFacts.{owed_is}
 use Rattle.share_meetings.specs.ServedRuns.{Rise}
@@ -132,7 +132,7 @@ module _ (s : Settings) (h : List Entry) (report : LinkReport) (m : Mirrored) wh
           (subst (λ (base : ℕ). AreAnswers s.keep m.target m.query m.meta base x.earlier ls) zero x.answers)
 
 module _ (s : Settings) (h : List Entry) (report : LinkReport) (input output : List ℕ) (of : IsOfShare s h report input output)
-    (host : List ℕ) (rounds : ℕ) (query meta : Option (List ℕ)) (target : Target) (seen : Told) (sent owed lost dropped : List ℕ)
+    (host : List ℕ) (rounds : ℕ) (query meta : Option (List ℕ)) (target : Target) (seen : Run) (sent owed lost dropped : List ℕ)
     (made : IsMade seen.before.around.net seen.after.around.net sent owed) (reached : sent ≡ input ++ lost) (answered : output ≡ owed ++ dropped)
     (some : 1 ≤ rounds) (host_is : IsHost host) (list : HasListNumber target) (utf8 : IfSome query IsUtf8) where
   abbrev Showing : ℕ → Type 0
@@ -323,7 +323,7 @@ module _ (s : Settings) (h : List Entry) (report : LinkReport) (input output : L
 
   -- ---- all ends
 
-  happens : (ending : Ending FollowFault) → Happens (follow_meaning host rounds query meta target) seen ending
+  happens : (ending : Ending FollowFault) → EndsAs (follow_meaning host rounds query meta target) seen ending
       → Showing (ending_status (follow_meaning host rounds query meta target) ending)
   happens (Done text) x = whole_so text (round_lines x.0.applied) (done_text text x.0) x.1
   happens (OutputCut text) x = cut_so x.front x.last x.begun x.cut

@@ -10,7 +10,7 @@ use Rattle.share_replies.specs.Settings.{Settings}
 use Rattle.share_replies.specs.Replies.{Reply, Replies, answer_to}
 use Rattle.reply_bytes.specs.ReplyBytes.{reply_bytes}
 use Rattle.command_core.specs.ReadRecords.{records_limit}
-use Rattle.command_core.specs.Seen.{Told}
+use Rattle.command_core.specs.Seen.{Run}
 use Rattle.mirror_core.specs.Mirrored.{Mirrored}
 use Rattle.link_commands.specs.Decided.{IsOrMemory}
 use Rattle.link_commands.specs.EditShare.{edit_meaning}
@@ -23,7 +23,7 @@ use Rattle.share_meetings.specs.ServedRuns.{ServesRun}
 -- ---- follow
 
 -- the texts select this mirror, and the bytes to come are a share's responses to it, for `rounds` rounds
-pub record ServesMirror (s : Settings) (h : List Entry) (rounds : ℕ) (query meta : Option (List ℕ)) (target : Target) (told : Told) : Type 0 where
+pub record ServesMirror (s : Settings) (h : List Entry) (rounds : ℕ) (query meta : Option (List ℕ)) (target : Target) (told : Run) : Type 0 where
   pub whole : IsWhole h
   pub bytes : List ℕ
   pub next : told.before.around.net.next_input ≡ Some bytes
@@ -35,7 +35,7 @@ pub record ServesMirror (s : Settings) (h : List Entry) (rounds : ℕ) (query me
 -- Then the run succeeds, unless an error outside was counted or an allocation failed.
 abbrev pub FollowGoesOn : Type 0
 FollowGoesOn =
-    (host : List ℕ) (rounds : ℕ) (query meta : Option (List ℕ)) (target : Target) (told : Told) (status : ℕ) (s : Settings) (h : List Entry)
+    (host : List ℕ) (rounds : ℕ) (query meta : Option (List ℕ)) (target : Target) (told : Run) (status : ℕ) (s : Settings) (h : List Entry)
     → LinkEnds (follow_meaning host rounds query meta target) told status → ServesMirror s h rounds query meta target told → IsFaultless told → IsOrMemory 0 status
 
 -- ---- edit
@@ -50,7 +50,7 @@ IsPushSuccess true status = status ≡ 204
 IsPushSuccess false status = (status ≡ 200) ⊎ (status ≡ 204)
 
 -- the bytes to come are one success of a share, and what is to be sent is within its limit
-pub record ServesPush (s : Settings) (h : List Entry) (stop : Bool) (told : Told) : Type 0 where
+pub record ServesPush (s : Settings) (h : List Entry) (stop : Bool) (told : Run) : Type 0 where
   pub few : IsWhole h
   pub want : Want
   pub want_is : IsPushWant stop want
@@ -66,5 +66,5 @@ pub record ServesPush (s : Settings) (h : List Entry) (stop : Bool) (told : Told
 -- Then the run succeeds, unless an error outside was counted or an allocation failed.
 abbrev pub EditGoesOn : Type 0
 EditGoesOn =
-    (host : List ℕ) (stop : Bool) (told : Told) (status : ℕ) (s : Settings) (h : List Entry)
+    (host : List ℕ) (stop : Bool) (told : Run) (status : ℕ) (s : Settings) (h : List Entry)
     → LinkEnds (edit_meaning host stop) told status → ServesPush s h stop told → IsFaultless told → IsOrMemory 0 status

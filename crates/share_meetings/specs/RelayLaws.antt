@@ -49,7 +49,7 @@ ServedRelaysGoOn =
 -- the relay's share had no capacity for a listing, or a worker served as much as it may
 abbrev pub MeetsLimit : {relaying : Relaying} {front : List ℕ} {net net' : NetSeen} {output output' : OutputSeen} {left : Outcome}
     → HasServed relaying front net net' output output' left → Type 0
-MeetsLimit r = (r.relay.report.end ≡ Full) ⊎ (has_end Spent (map (λ stint. stint.end) r.crew) ≡ true)
+MeetsLimit r = (r.relay.report.end ≡ Full) ⊎ (has_end Spent (map (λ worker_run. worker_run.end) r.crew) ≡ true)
 
 -- If the relay's connection has such bytes, and neither error counter increased, then the run succeeds, unless an allocation failed or a
 -- limit was met

@@ -17,7 +17,7 @@ use Rattle.command_core.specs.Faults.{fault_line, fault_status}
 use Rattle.command_core.specs.Seen.{OutputSeen}
 use Rattle.link_commands.specs.declared.follow.FollowFault.{FollowFault}
 use Rattle.link_commands.specs.FollowShare.{follow_line, follow_status}
-use Rattle.link_commands.specs.Looks.{AsksQuery, meta_asked}
+use Rattle.link_commands.specs.Looks.{AsksQuery, meta_or_default}
 use Rattle.link_commands.specs.Meanings.{IsCutBehind}
 use Rattle.share_meetings.specs.Links.{IsReport}
 use Rattle.share_meetings.specs.Texts.{follow_text, last_of, line_at, lines_at, rows_text}
@@ -93,5 +93,5 @@ pub record ShowsAsked (keep : ℕ) (report : LinkReport) (h : List Entry) (round
   pub asked : Option Query
   pub shown : Meta
   pub query_is : AsksQuery query asked
-  pub meta_is : meta_asked meta ≡ Some shown
+  pub meta_is : meta_or_default meta ≡ Some shown
   pub shows : Shows keep report h rounds target asked shown before after status

@@ -22,7 +22,7 @@ use Rattle.command_core.proofs.Reading.{all_read_on, past_limit, failed_within, 
 use Rattle.command_core.specs.Faults.{read_fault}
 use Rattle.tag_commands.specs.declared.show_back.TextFault.{TextFault}
 use Rattle.tag_commands.specs.declared.show_back.TextFault.TheVariants.{Line, TooLong}
-use Rattle.tag_commands.specs.ShowBack.{text_limit, IsWithin, StopsOn, IsTextRefused, line_at, IsTextFault, StopsReading, show_fault}
+use Rattle.tag_commands.specs.ShowBack.{shown_text_limit, IsWithin, StopsOn, IsTextRefused, line_at, IsTextFault, StopsReading, show_fault}
 
 pub not_utf8 : (bytes : List ℕ) → ¬ (IsUtf8 bytes) → is_utf8 bytes ≡ false
 not_utf8 bytes bad = at (is_utf8 bytes) refl
@@ -39,16 +39,16 @@ bad_line bytes (show.Line line) good why = inr (good, why)
 bad_line bytes show.Memory good why = tt
 
 -- the tags of a text within the limit have encodings
-pub back_spellable : (bytes : List ℕ) (tags : List Tree) → length bytes ≤ text_limit → Shows standard_rows bytes tags → are_spellable (trees_of tags) ≡ true
+pub back_spellable : (bytes : List ℕ) (tags : List Tree) → length bytes ≤ shown_text_limit → Shows standard_rows bytes tags → are_spellable (trees_of tags) ≡ true
 back_spellable bytes tags within shows = spellable_by_text 0 (trees_of tags) (omega (arith, ap length shows.lines))
 
 -- an input that is not read whole
-pub unread_cause : (before after : InputSeen) (e : ReadError) → (e ≡ reads.Failed → ConsumesUpTo text_limit before.left after.left)
-    → ConsumesUpTo (text_limit + 32768) before.left after.left → (e ≡ reads.TooLong → IfSome before.left (λ input. text_limit < length input))
+pub unread_cause : (before after : InputSeen) (e : ReadError) → (e ≡ reads.Failed → ConsumesUpTo shown_text_limit before.left after.left)
+    → ConsumesUpTo (shown_text_limit + 32768) before.left after.left → (e ≡ reads.TooLong → IfSome before.left (λ input. shown_text_limit < length input))
     → CountsReadFaults {T = Vec ℕ Global} before.faults after.faults (Err e) → StopsReading before after (read_fault TooLong e)
-unread_cause before after reads.Failed failed some long count = failed_within IsWithin before after text_limit (λ bytes within. within) (failed refl) count
+unread_cause before after reads.Failed failed some long count = failed_within IsWithin before after shown_text_limit (λ bytes within. within) (failed refl) count
 unread_cause before after reads.TooLong failed some long count =
-    record { words = tt; said = long refl; faultless = count; read_on = past_limit IsWithin before after text_limit (λ bytes within. within) some }
+    record { words = tt; said = long refl; faultless = count; read_on = past_limit IsWithin before after shown_text_limit (λ bytes within. within) some }
 unread_cause before after reads.Memory failed some long count = tt
 
 -- lines count from 1

@@ -22,7 +22,7 @@ use Rattle.tag_commands.specs.declared.tops.Tops.{Tops}
 use Rattle.command_core.specs.Seen.{InputSeen, no_share}
 use Rattle.command_core.specs.Causes.{piece_limit, HasReadOn}
 use Rattle.command_core.proofs.Reading.{all_read_on, of_input, of_front}
-use Rattle.tag_commands.specs.TopTags.{walked, IsTooLong, HasTagFault, IsSoundSoFar, StopsReading, tags_fault}
+use Rattle.tag_commands.specs.TopTags.{walk_of_tags, IsTooLong, HasTagFault, IsSoundSoFar, StopsReading, tags_fault}
 use Rattle.tag_commands.specs.Check.{IsChecked}
 use Rattle.tag_commands.specs.Counting.{after_event, no_tops, top_tags, HasCounted, IsCounted, IsShown, StopsAt, EndsCounted}
 use Rattle.tag_commands.proofs.FewEvents.{total, few_tops, counted_more, takes_some}
@@ -91,7 +91,7 @@ fewer_left before after left behind (suc n) some within is takes none = omega (a
 fewer_left [] after left behind zero some within is takes none = absurd (let n : 0 < zero = takes refl in omega (arith, n))
 fewer_left (e ∷ before) after left behind zero some within is takes none = subst (λ es. 2 * behind + (if is_empty es then 0 else 1) < 2 * left + 1) (sym (none refl)) (omega (arith, is))
 
-pub walked_by : (bytes : List ℕ) (r : Reader) → r.rows ≡ standard_rows → r.limit ≡ tag_limit → walk_of r.rows r.limit bytes ≡ walked bytes
+pub walked_by : (bytes : List ℕ) (r : Reader) → r.rows ≡ standard_rows → r.limit ≡ tag_limit → walk_of r.rows r.limit bytes ≡ walk_of_tags bytes
 walked_by bytes r rows limit = ap (λ rs. walk_of rs r.limit bytes) rows ∙ ap (λ l. walk_of standard_rows l bytes) limit
 
 -- a refusal is that of all bytes that begin with those that were fed
@@ -111,12 +111,12 @@ unbroken_end false e h = absurd (cc)
 told_as : (fed : List ℕ) (r : Reader) (tops : Tops) (h : HasCounted fed r tops) → TellsAs fed h.handed r None
 told_as fed r tops h = subst (TellsAs fed h.handed r) h.going (told fed h.handed r h.read)
 
-pub unbroken : (fed : List ℕ) (r : Reader) (tops : Tops) (e : StreamError) → HasCounted fed r tops → (walked fed).ending ≢ broken e
+pub unbroken : (fed : List ℕ) (r : Reader) (tops : Tops) (e : StreamError) → HasCounted fed r tops → (walk_of_tags fed).ending ≢ broken e
 unbroken fed r tops e h is =
     unbroken_end (is_between r.position) e
     (sym (ap (λ w. w.ending) (told_as fed r tops h)) ∙ ap (λ w. w.ending) (walked_by fed r h.rows h.limit) ∙ is)
 
-tops_are : (fed : List ℕ) (r : Reader) (tops : Tops) → HasCounted fed r tops → ready r ≡ [] → tops.ended ≡ top_tags (walked fed).events
+tops_are : (fed : List ℕ) (r : Reader) (tops : Tops) → HasCounted fed r tops → ready r ≡ [] → tops.ended ≡ top_tags (walk_of_tags fed).events
 tops_are fed r tops h quiet =
     ap (λ t. t.ended) h.counted
     ∙ ap (λ es. top_tags es)
@@ -137,7 +137,7 @@ within_limit bytes more within =
     ap (λ n. take n (bytes ++ more)) (let long : tags_limit ≡ length bytes + (tags_limit - length bytes) = omega (arith, within) in long)
     ∙ take-append-add bytes more (tags_limit - length bytes)
 
-stops_by : (bytes : List ℕ) (e : StreamError) → (e ≢ stream.Memory → (rest : List ℕ) → (walked (take tags_limit (bytes ++ rest))).ending ≡ broken e)
+stops_by : (bytes : List ℕ) (e : StreamError) → (e ≢ stream.Memory → (rest : List ℕ) → (walk_of_tags (take tags_limit (bytes ++ rest))).ending ≡ broken e)
     → StopsAt bytes (tags_fault e)
 stops_by bytes (stream.TooLarge at) h = ((λ is. absurd (cc)), h (λ is. absurd (cc)))
 stops_by bytes (stream.TooDeep at) h = ((λ is. absurd (cc)), h (λ is. absurd (cc)))
@@ -150,9 +150,9 @@ stops_by bytes stream.Memory h = tt
 pub stops : (fed front piece : List ℕ) (e : StreamError) → length (fed ++ front) ≤ tags_limit → IsShown (fed ++ front) e
     → ((more : List ℕ) × (piece ≡ front ++ more)) → StopsAt (fed ++ piece) (tags_fault e)
 stops fed front piece e within h split = stops_by (fed ++ piece) e (λ known rest.
-    ap (λ l. (walked (take tags_limit l)).ending)
+    ap (λ l. (walk_of_tags (take tags_limit l)).ending)
     (append_assoc fed piece rest ∙ ap (λ l. fed ++ (l ++ rest)) split.1 ∙ ap (λ l. fed ++ l) (append_assoc front split.0 rest) ∙ sym (append_assoc fed front (split.0 ++ rest)))
-    ∙ ap (λ l. (walked l).ending) (within_limit (fed ++ front) (split.0 ++ rest) within)
+    ∙ ap (λ l. (walk_of_tags l).ending) (within_limit (fed ++ front) (split.0 ++ rest) within)
     ∙ h known (take (tags_limit - length (fed ++ front)) (split.0 ++ rest)))
 
 -- there are more bytes than are read, and no tag in those that are read is malformed
@@ -162,14 +162,14 @@ too_long fed front behind piece r tops full more split h =
     let same : fed ++ piece ≡ (fed ++ front) ++ behind = ap (λ l. fed ++ l) split ∙ sym (append_assoc fed front behind) in
     record {
       long = omega (arith, ap length same, length-append (fed ++ front) behind);
-      sound = λ e is. unbroken (fed ++ front) r tops e h (ap (λ l. (walked l).ending) (sym (ap (take tags_limit) same ∙ take_at (fed ++ front) behind tags_limit full)) ∙ is);
+      sound = λ e is. unbroken (fed ++ front) r tops e h (ap (λ l. (walk_of_tags l).ending) (sym (ap (take tags_limit) same ∙ take_at (fed ++ front) behind tags_limit full)) ∙ is);
     }
 
 -- more bytes than are read are there, whatever follows them
 too_long_more : (bytes rest : List ℕ) → IsTooLong bytes → IsTooLong (bytes ++ rest)
 too_long_more bytes rest long = record {
   long = let more = long.long in omega (arith, length-append bytes rest);
-  sound = λ e is. long.sound e (ap (λ l. (walked l).ending) (sym (take-append-le tags_limit bytes rest (let more = long.long in omega arith))) ∙ is);
+  sound = λ e is. long.sound e (ap (λ l. (walk_of_tags l).ending) (sym (take-append-le tags_limit bytes rest (let more = long.long in omega arith))) ∙ is);
 }
 
 -- what was read, chunk by chunk
@@ -203,7 +203,7 @@ failed_cause before after bytes counter read counted within rose = record {
   rose = rose;
 }
 
-inside_sound : (bytes : List ℕ) → length bytes ≤ tags_limit → (walked bytes).ending ≡ inside → IsSoundSoFar bytes
+inside_sound : (bytes : List ℕ) → length bytes ≤ tags_limit → (walk_of_tags bytes).ending ≡ inside → IsSoundSoFar bytes
 inside_sound bytes within is = record { within = within; sound = λ e broke. let same : inside ≡ broken e = sym is ∙ broke in absurd (cc) }
 
 -- bytes that end inside a top tag, at the end of the input

@@ -5,10 +5,10 @@ use Rattle.std.proofs.KnownBytes.{Appends-nil, Appends-trans, Consumes-nil, Cons
 use Rattle.std.proofs.lemmas.List.{append-nil, length-take}
 use Rattle.command_core.specs.declared.fault.Fault.{Fault}
 use Rattle.command_core.specs.declared.outcome.Outcome.{Outcome}
-use Rattle.command_core.specs.Answers.{Tells, TellsFault, TellsMemory}
+use Rattle.command_core.specs.Answers.{Writes, WritesError, WritesMemory}
 use Rattle.command_core.specs.Causes.{piece_limit}
 use Rattle.command_core.specs.Faults.{fault_line, fault_status, memory_line}
-use Rattle.command_core.specs.Seen.{InputSeen, OutputSeen, Seen, Told}
+use Rattle.command_core.specs.Seen.{InputSeen, OutputSeen, Seen, Run}
 use Rattle.tag_commands.specs.declared.show.Stop.{Stop}
 use Rattle.tag_commands.specs.declared.show.Stop.TheVariants.{Input, Output}
 use Rattle.tag_commands.specs.Show.{IsInStep, shown_text}
@@ -84,23 +84,23 @@ step_more before after output_before mid output_after bytes h taken = record {
 }
 
 step_told : (before after : InputSeen) (output_before mid output_after : OutputSeen) (wanted : ℕ) (bytes : List ℕ) (status : ℕ) → IsInStep before after output_before mid
-    → Tells wanted bytes mid output_after status → IsInStep before after output_before output_after
+    → Writes wanted bytes mid output_after status → IsInStep before after output_before output_after
 step_told before after output_before mid output_after wanted bytes status h (inl t) = step_more before after output_before mid output_after bytes h t.1.taken
 step_told before after output_before mid output_after wanted bytes status h (inr t) =
     step_more before after output_before mid output_after (take t.1.taken.0 bytes) h t.1.taken.2
 
 -- the line of an error was written, perhaps only a prefix of it
 pub step_fault : {F : Type 0} (line : F → List ℕ) (status : F → ℕ) (fault : Fault F) (before after : InputSeen) (output_before mid output_after : OutputSeen) (outcome : Outcome)
-    → IsInStep before after output_before mid → TellsFault line status fault mid output_after outcome → IsInStep before after output_before output_after
+    → IsInStep before after output_before mid → WritesError line status fault mid output_after outcome → IsInStep before after output_before output_after
 step_fault {F} line status fault before after output_before mid output_after outcome h t = by_line t.told
   where
-    by_line : Tells (fault_status status fault) (fault_line line fault) mid output_after outcome.status ⊎ Tells 9 memory_line mid output_after outcome.status
+    by_line : Writes (fault_status status fault) (fault_line line fault) mid output_after outcome.status ⊎ Writes 9 memory_line mid output_after outcome.status
         → IsInStep before after output_before output_after
     by_line (inl own) = step_told before after output_before mid output_after (fault_status status fault) (fault_line line fault) outcome.status h own
     by_line (inr want) = step_told before after output_before mid output_after 9 memory_line outcome.status h want
 
 -- an allocation failed before anything was read
-pub step_idle : (told : Told) (outcome : Outcome) → told.after ≡ told.before → TellsMemory None told.output_before told.output_after outcome
+pub step_idle : (told : Run) (outcome : Outcome) → told.after ≡ told.before → WritesMemory None told.output_before told.output_after outcome
     → IsInStep told.before.input told.after.input told.output_before told.output_after
 step_idle told outcome same t =
     subst (λ (s : Seen). IsInStep told.before.input s.input told.output_before told.output_after) (sym same)

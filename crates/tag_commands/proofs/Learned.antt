@@ -29,7 +29,7 @@ use Rattle.tag_commands.specs.declared.learn.Learner.{Learner}
 use Rattle.command_core.specs.Seen.{InputSeen}
 use Rattle.command_core.specs.Causes.{piece_limit, HasReadOn}
 use Rattle.command_core.proofs.Reading.{all_read_on, of_input, of_front}
-use Rattle.tag_commands.specs.TopTags.{tag_limit, walked}
+use Rattle.tag_commands.specs.TopTags.{tag_limit, walk_of_tags}
 use Rattle.tag_commands.specs.Counting.{IsShown}
 use Rattle.tag_commands.specs.LearnCodes.{BeginsWith, HasNoTag, IsReply, HasNoReply, IsReplyRefused, IsUnfinished, IsReplySoFar, StopsReading, broken_fault, table_fault}
 use Rattle.tag_commands.specs.Learning.{is_whole, IsLearning, IsRefusal, LearnStops}
@@ -56,13 +56,13 @@ pub none_yet : (bytes : List ℕ) → is_whole bytes ≡ false → HasNoTag byte
 none_yet bytes short t rest h = let same : true ≡ false = sym (whole_in_front t rest bytes h) ∙ short in absurd (cc)
 
 -- the bytes of one tag and nothing else end between two tags
-alone : (t : Tree) (bytes : List ℕ) → spelling t ≡ bytes → is_accepted standard_rows tag_limit t ≡ true → IsProperTag t → (walked bytes).ending ≡ between
+alone : (t : Tree) (bytes : List ℕ) → spelling t ≡ bytes → is_accepted standard_rows tag_limit t ≡ true → IsProperTag t → (walk_of_tags bytes).ending ≡ between
 alone t bytes is accepted proper =
-    ap (λ l. (walked l).ending) (sym (append-nil (spelling t) ∙ is))
+    ap (λ l. (walk_of_tags l).ending) (sym (append-nil (spelling t) ∙ is))
     ∙ ap (λ (w : Walk). w.ending) (tags_read standard_rows tag_limit (t ∷ []) (omega arith) ((accepted, proper), tt))
 
 -- if bytes are broken, whatever follows them, and do not begin with a tag, then no longer bytes that begin with them do
-none_in_all : (bytes : List ℕ) (e : StreamError) → HasNoTag bytes → ((rest : List ℕ) → (walked (bytes ++ rest)).ending ≡ broken e) → (rest : List ℕ) → HasNoTag (bytes ++ rest)
+none_in_all : (bytes : List ℕ) (e : StreamError) → HasNoTag bytes → ((rest : List ℕ) → (walk_of_tags (bytes ++ rest)).ending ≡ broken e) → (rest : List ℕ) → HasNoTag (bytes ++ rest)
 none_in_all bytes e none breaks rest t more h = elim (cases_lt (length bytes) (length (spelling t))) [
   | inl less ↦
       let part : spelling t ≡ bytes ++ drop (length bytes) (spelling t) =
@@ -113,7 +113,7 @@ no_table tag rest bytes (table.Entry index) h told = (λ is. absurd (cc), record
 no_table tag rest bytes (table.Repeated index) h told = (λ is. absurd (cc), record { tag = tag; rest = rest; whole = h; refused = inl (told (λ is. absurd (cc))) })
 no_table tag rest bytes table.Memory h told = tt
 
-pub begun_by : (bytes : List ℕ) → HasNoTag bytes → ((walked bytes).ending ≡ between) ⊎ ((walked bytes).ending ≡ inside) → IsUnfinished bytes
+pub begun_by : (bytes : List ℕ) → HasNoTag bytes → ((walk_of_tags bytes).ending ≡ between) ⊎ ((walk_of_tags bytes).ending ≡ inside) → IsUnfinished bytes
 begun_by bytes none (inl is) = record { open_ = none; sound = λ e broke. let same : between ≡ broken e = sym is ∙ broke in absurd (cc) }
 begun_by bytes none (inr is) = record { open_ = none; sound = λ e broke. let same : inside ≡ broken e = sym is ∙ broke in absurd (cc) }
 
@@ -123,16 +123,16 @@ broken_by n between e is more = absurd (more n is)
 broken_by n inside e is more = absurd (more n is)
 broken_by n (broken f) e is more = ap broken (sym is)
 
-pub no_tag : (bytes : List ℕ) (e : StreamError) → (e ≢ stream.Memory → HasNoTag bytes) → (e ≢ stream.Memory → e ≡ refusal (length bytes) (walked bytes).ending)
+pub no_tag : (bytes : List ℕ) (e : StreamError) → (e ≢ stream.Memory → HasNoTag bytes) → (e ≢ stream.Memory → e ≡ refusal (length bytes) (walk_of_tags bytes).ending)
     → ((at : ℕ) → e ≢ stream.Truncated at) → IsRefusal bytes (broken_fault e)
 no_tag bytes (stream.TooLarge at) none told more =
-    let known = λ (is : stream.TooLarge at ≡ stream.Memory). absurd (cc) in (none known, (known, broken_by (length bytes) (walked bytes).ending (stream.TooLarge at) (told known) more))
+    let known = λ (is : stream.TooLarge at ≡ stream.Memory). absurd (cc) in (none known, (known, broken_by (length bytes) (walk_of_tags bytes).ending (stream.TooLarge at) (told known) more))
 no_tag bytes (stream.TooDeep at) none told more =
-    let known = λ (is : stream.TooDeep at ≡ stream.Memory). absurd (cc) in (none known, (known, broken_by (length bytes) (walked bytes).ending (stream.TooDeep at) (told known) more))
+    let known = λ (is : stream.TooDeep at ≡ stream.Memory). absurd (cc) in (none known, (known, broken_by (length bytes) (walk_of_tags bytes).ending (stream.TooDeep at) (told known) more))
 no_tag bytes (stream.Overrun at code) none told more =
-    let known = λ (is : stream.Overrun at code ≡ stream.Memory). absurd (cc) in (none known, (known, broken_by (length bytes) (walked bytes).ending (stream.Overrun at code) (told known) more))
+    let known = λ (is : stream.Overrun at code ≡ stream.Memory). absurd (cc) in (none known, (known, broken_by (length bytes) (walk_of_tags bytes).ending (stream.Overrun at code) (told known) more))
 no_tag bytes (stream.ShortHead at) none told more =
-    let known = λ (is : stream.ShortHead at ≡ stream.Memory). absurd (cc) in (none known, (known, broken_by (length bytes) (walked bytes).ending (stream.ShortHead at) (told known) more))
+    let known = λ (is : stream.ShortHead at ≡ stream.Memory). absurd (cc) in (none known, (known, broken_by (length bytes) (walk_of_tags bytes).ending (stream.ShortHead at) (told known) more))
 no_tag bytes (stream.Truncated at) none told more = absurd (more at refl)
 no_tag bytes stream.Memory none told more = tt
 
@@ -153,14 +153,14 @@ refused_more error bytes more h = record {
   refused = elim h.refused [ inl bad ↦ inl bad | inr bad ↦ inr (bad.0, (not_empty h.rest more bad.1.0, bad.1.1)) ];
 }
 
-pub broken_whole : (bytes : List ℕ) (d e : StreamError) → IsShown bytes d → d ≢ stream.Memory → (walked bytes).ending ≡ broken e
-    → (rest : List ℕ) → (walked (bytes ++ rest)).ending ≡ broken e
+pub broken_whole : (bytes : List ℕ) (d e : StreamError) → IsShown bytes d → d ≢ stream.Memory → (walk_of_tags bytes).ending ≡ broken e
+    → (rest : List ℕ) → (walk_of_tags (bytes ++ rest)).ending ≡ broken e
 broken_whole bytes d e shown known is rest =
-    let same : broken d ≡ broken e = sym (shown known []) ∙ ap (λ l. (walked l).ending) (append-nil bytes) ∙ is in
+    let same : broken d ≡ broken e = sym (shown known []) ∙ ap (λ l. (walk_of_tags l).ending) (append-nil bytes) ∙ is in
     shown known rest ∙ same
 
 -- an error of the bytes is one of all that begin with them
-pub stops_all : (bytes : List ℕ) (f : Fault LearnFault) → ((e : StreamError) → (walked bytes).ending ≡ broken e → (rest : List ℕ) → (walked (bytes ++ rest)).ending ≡ broken e)
+pub stops_all : (bytes : List ℕ) (f : Fault LearnFault) → ((e : StreamError) → (walk_of_tags bytes).ending ≡ broken e → (rest : List ℕ) → (walk_of_tags (bytes ++ rest)).ending ≡ broken e)
     → IsRefusal bytes f → LearnStops bytes f
 stops_all bytes (Own (Broken error)) breaks h = (
   h.1.0,
@@ -190,7 +190,7 @@ begun bytes learner h = record {
 }
 
 -- the bytes ended before the reply was whole
-cut_reply : (bytes : List ℕ) (ending : Ending) → IsUnfinished bytes → (walked bytes).ending ≡ ending → stream.Truncated (length bytes) ≡ refusal (length bytes) ending
+cut_reply : (bytes : List ℕ) (ending : Ending) → IsUnfinished bytes → (walk_of_tags bytes).ending ≡ ending → stream.Truncated (length bytes) ≡ refusal (length bytes) ending
 cut_reply bytes between h is = refl
 cut_reply bytes inside h is = refl
 cut_reply bytes (broken e) h is = absurd (h.sound e is)
@@ -200,7 +200,7 @@ pub early_cause : (before after : InputSeen) (bytes : List ℕ) → Consumes bef
 early_cause before after bytes read end faultless h = record {
   words = λ is. absurd (cc);
   said = of_input (HasNoReply (stream.Truncated (length bytes))) before.left after.left bytes read end
-      (record { none = h.open_; told = cut_reply bytes (walked bytes).ending h refl });
+      (record { none = h.open_; told = cut_reply bytes (walk_of_tags bytes).ending h refl });
   faultless = faultless;
   read_on = all_read_on IsReplySoFar before after bytes read (inl h);
 }
@@ -236,7 +236,7 @@ told_broken P bytes (Ok (Some rows)) sound told = told
 told_broken P bytes (Err f) sound told = tt
 
 pub all_stop : (bytes : List ℕ) (r : Result (Option (List CodeRow)) (Fault LearnFault))
-    → ((e : StreamError) → (walked bytes).ending ≡ broken e → (rest : List ℕ) → (walked (bytes ++ rest)).ending ≡ broken e)
+    → ((e : StreamError) → (walk_of_tags bytes).ending ≡ broken e → (rest : List ℕ) → (walk_of_tags (bytes ++ rest)).ending ≡ broken e)
     → IfErr r (IsRefusal bytes) → IfErr r (LearnStops bytes)
 all_stop bytes (Ok learned) breaks refused = tt
 all_stop bytes (Err f) breaks refused = stops_all bytes f breaks refused

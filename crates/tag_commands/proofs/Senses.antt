@@ -14,7 +14,7 @@ use Rattle.dmap_stream.specs.declared.refusal.StreamError.{StreamError}
 use Rattle.command_core.specs.declared.fault.Fault.{Fault}
 use Rattle.command_core.specs.declared.fault.Fault.TheVariants.{Own, Read, Memory}
 use Rattle.command_core.specs.Seen.{Seen, ShareSeen, IsUnread}
-use Rattle.command_core.specs.Causes.{Says}
+use Rattle.command_core.specs.Causes.{HasCause}
 use Rattle.command_core.specs.Meanings.{Meaning, IsCause, leaves_no_share, may_read, says_no_more, writes_nothing_before}
 use Rattle.command_core.proofs.Reading.{read_whole}
 use Rattle.command_core.proofs.Sensible.{IsSensible, WritesOnce}
@@ -24,12 +24,12 @@ use Rattle.tag_commands.specs.declared.show_back.TextFault.{TextFault}
 use Rattle.tag_commands.specs.declared.show_back.TextFault.TheVariants as text
 use Rattle.tag_commands.specs.declared.learn.LearnFault.{LearnFault}
 use Rattle.tag_commands.specs.declared.learn.LearnFault.TheVariants as learn
-use Rattle.tag_commands.specs.TopTags.{tags_limit, tag_limit, walked, IsSound, HasTagFault, IsTooLong, tags_status, tags_cause}
+use Rattle.tag_commands.specs.TopTags.{tags_limit, tag_limit, walk_of_tags, IsSound, HasTagFault, IsTooLong, tags_status, tags_cause}
 use Rattle.tag_commands.specs.Check.{check_meaning}
 use Rattle.tag_commands.specs.Show.{show_meaning}
 use Rattle.tag_commands.specs.ShowBack.{ShowsBack, StopsOn, text_status, text_cause, show_back_meaning}
 use Rattle.tag_commands.specs.Codes.{codes_meaning}
-use Rattle.tag_commands.specs.LearnCodes.{IsReply, TellsNone, IsReplyRefused, learn_cause, learn_meaning}
+use Rattle.tag_commands.specs.LearnCodes.{IsReply, StatesNoTable, IsReplyRefused, learn_cause, learn_meaning}
 use Rattle.tag_commands.proofs.InStep.{step_idle}
 use Rattle.tag_commands.proofs.Showing.{show_nothing}
 use Rattle.tag_commands.proofs.Tagged.{tags_walked}
@@ -39,8 +39,8 @@ use Rattle.tag_commands.proofs.Tagged.{tags_walked}
 abbrev pub reading : Meaning → Meaning
 reading m = record m { is_begun = m.is_done; is_front = writes_nothing_before; leaves = leaves_no_share; may_want = may_read; always = says_no_more }
 
-pub reads_once : (m : Meaning) → ((input : List ℕ) (one other : m.fault) → Says (m.cause one) input → Says (m.cause other) input → m.status one ≡ m.status other)
-    → ((input : List ℕ) (own : m.fault) → Says (m.cause own) input → m.gives input → ⊥)
+pub reads_once : (m : Meaning) → ((input : List ℕ) (one other : m.fault) → HasCause (m.cause one) input → HasCause (m.cause other) input → m.status one ≡ m.status other)
+    → ((input : List ℕ) (own : m.fault) → HasCause (m.cause own) input → m.gives input → ⊥)
     → ((input : List ℕ) (before after : Seen) (share : ShareSeen) (output : List ℕ) → before.input.left ≡ Some input → m.is_done before after share output → m.gives input)
     → WritesOnce (reading m)
 reads_once m one_status not_both given = record {
@@ -69,24 +69,24 @@ long_or_faulty : (input : List ℕ) (error : StreamError) → HasTagFault error 
 long_or_faulty input error (inl shown) too_long = too_long.sound error shown
 long_or_faulty input error (inr cut) too_long = let within = cut.within in let long = too_long.long in absurd (omega arith)
 
-one_tags_status : (input : List ℕ) (one other : TagsFault) → Says (tags_cause one) input → Says (tags_cause other) input → tags_status one ≡ tags_status other
+one_tags_status : (input : List ℕ) (one other : TagsFault) → HasCause (tags_cause one) input → HasCause (tags_cause other) input → tags_status one ≡ tags_status other
 one_tags_status input (tags.Broken error) (tags.Broken more) says said = refl
 one_tags_status input (tags.Broken error) tags.TooLong says said = absurd (long_or_faulty input error says.1 said.1)
 one_tags_status input tags.TooLong (tags.Broken error) says said = absurd (long_or_faulty input error said.1 says.1)
 one_tags_status input tags.TooLong tags.TooLong says said = refl
 
 -- tags end between two of them
-ends_between : (input : List ℕ) → IsSound input → (walked input).ending ≡ between
+ends_between : (input : List ℕ) → IsSound input → (walk_of_tags input).ending ≡ between
 ends_between input sound = ap (λ (w : Walk). w.ending) (tags_walked sound.1.0 input sound.1.1)
 
 -- so they have no error
 sound_or_faulty : (input : List ℕ) (error : StreamError) → IsSound input → HasTagFault error input → ⊥
 sound_or_faulty input error sound (inl shown) =
     let ending : between ≡ broken error =
-    sym (ends_between input sound) ∙ ap (λ bytes. (walked bytes).ending) (sym (take_all tags_limit input sound.0)) ∙ shown in absurd (cc)
+    sym (ends_between input sound) ∙ ap (λ bytes. (walk_of_tags bytes).ending) (sym (take_all tags_limit input sound.0)) ∙ shown in absurd (cc)
 sound_or_faulty input error sound (inr cut) = let ending : between ≡ inside = sym (ends_between input sound) ∙ cut.ending in absurd (cc)
 
-no_tags_fault : (input : List ℕ) (own : TagsFault) → Says (tags_cause own) input → IsSound input → ⊥
+no_tags_fault : (input : List ℕ) (own : TagsFault) → HasCause (tags_cause own) input → IsSound input → ⊥
 no_tags_fault input (tags.Broken error) says sound = sound_or_faulty input error sound says.1
 no_tags_fault input tags.TooLong says sound = let within = sound.0 in let long = says.1.long in absurd (omega arith)
 
@@ -112,7 +112,7 @@ show_sense = record {
 -- ---- show --back
 
 -- a text within the limit is not too long
-one_text_status : (input : List ℕ) (one other : TextFault) → Says (text_cause one) input → Says (text_cause other) input → text_status one ≡ text_status other
+one_text_status : (input : List ℕ) (one other : TextFault) → HasCause (text_cause one) input → HasCause (text_cause other) input → text_status one ≡ text_status other
 one_text_status input (text.Line line) (text.Line more) says said = refl
 one_text_status input (text.Line line) text.TooLong says said = let within = says.1.within in let long = said.1 in absurd (omega arith)
 one_text_status input text.TooLong (text.Line line) says said = let within = said.1.within in let long = says.1 in absurd (omega arith)
@@ -123,7 +123,7 @@ stops_not : (input : List ℕ) (tags : List Tree) (line : ℕ) → ShowsBack tag
 stops_not input tags line back (inl bad) = let same : true ≡ false = sym back.text ∙ bad.0 in absurd (cc)
 stops_not input tags line back (inr bad) = shown_once standard_rows input bad.1.0 tags bad.1.1.1 back.shows
 
-no_text_fault : (input : List ℕ) (own : TextFault) → Says (text_cause own) input → ((tags : List Tree) × ShowsBack tags input) → ⊥
+no_text_fault : (input : List ℕ) (own : TextFault) → HasCause (text_cause own) input → ((tags : List Tree) × ShowsBack tags input) → ⊥
 no_text_fault input (text.Line line) says back = stops_not input back.0 line back.1 says.1.stops
 no_text_fault input text.TooLong says back = let within = back.1.within in let long = says.1 in absurd (omega arith)
 
@@ -162,7 +162,7 @@ codes_sense = record {
 -- ---- codes --learn
 
 -- there is no cause to refuse a reply whose only tag is a table and is the whole input
-tells_not : (rows : List CodeRow) (error : CodeError) (tag : Tree) (rest : List ℕ) → table_of tag ≡ Ok rows → rest ≡ [] → TellsNone error tag rest → ⊥
+tells_not : (rows : List CodeRow) (error : CodeError) (tag : Tree) (rest : List ℕ) → table_of tag ≡ Ok rows → rest ≡ [] → StatesNoTable error tag rest → ⊥
 tells_not rows error tag rest told none (inl bad) = let same : Ok rows ≡ Err error = sym told ∙ bad in absurd (cc)
 tells_not rows error tag rest told none (inr bad) = bad.1.0 none
 
@@ -172,7 +172,7 @@ reply_or_refused input rows error told refused =
     refused.whole.accepted refused.whole.proper (sym told.whole.spelled ∙ refused.whole.spelled) in
     tells_not rows error refused.tag refused.rest (ap table_of (sym one.0) ∙ told.told) (sym one.1) refused.refused
 
-no_learn_fault : (input : List ℕ) (own : LearnFault) → Says (learn_cause own) input → ((rows : List CodeRow) × IsReply rows input) → ⊥
+no_learn_fault : (input : List ℕ) (own : LearnFault) → HasCause (learn_cause own) input → ((rows : List CodeRow) × IsReply rows input) → ⊥
 no_learn_fault input (learn.Broken error) says told = says.1.none told.1.tag [] told.1.whole
 no_learn_fault input (learn.Table error) says told = reply_or_refused input told.0 error told.1 says.1
 

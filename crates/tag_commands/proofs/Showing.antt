@@ -27,7 +27,7 @@ use Rattle.command_core.specs.Seen.{InputSeen, OutputSeen, no_share}
 use Rattle.command_core.specs.Causes.{piece_limit, HasReadOn}
 use Rattle.command_core.proofs.Appending.{written_more, cut_more}
 use Rattle.command_core.proofs.Reading.{of_input, of_front}
-use Rattle.tag_commands.specs.TopTags.{walked, IsSoundSoFar, StopsReading, tags_fault}
+use Rattle.tag_commands.specs.TopTags.{walk_of_tags, IsSoundSoFar, StopsReading, tags_fault}
 use Rattle.tag_commands.specs.Show.{read_events, shown_text, BeginsShown, IsShownWhole, ShowsAll, IsShownBefore}
 use Rattle.tag_commands.specs.Counting.{after_event, no_tops, HasCounted, IsCounted, StopsAt, EndsCounted}
 use Rattle.command_core.specs.Endings.{IsWritten}
@@ -125,7 +125,7 @@ begun_as fed handed r (Some e) h rest = ((h.0 rest).0.events, ap (λ w. w.events
 pub shows_some : (fed written lines : List ℕ) (r : Reader) (tops : Tops) → HasShown fed written r tops lines → ShowsSome fed (written ++ lines)
 shows_some fed written lines r tops h rest =
     let later = begun_as fed h.handed r r.error h.read rest in
-    let events : (walked (fed ++ rest)).events ≡ h.handed ++ (ready r ++ later.0) =
+    let events : (walk_of_tags (fed ++ rest)).events ≡ h.handed ++ (ready r ++ later.0) =
     ap (λ w. w.events) (sym (walked_by (fed ++ rest) r h.rows h.limit)) ∙ later.1 ∙ append_assoc h.handed (ready r) later.0 in
     (length h.handed, h.shown ∙ ap (shown_events 0) (sym (ap (take (length h.handed)) events ∙ take_at h.handed (ready r ++ later.0) (length h.handed) refl)))
 
@@ -137,21 +137,21 @@ pub shows_broken : (bytes written lines : List ℕ) (r : Reader) (tops : Tops) (
     → r.error ≡ Some e → e ≢ stream.Memory → ShowsBroken bytes (written ++ lines) e
 shows_broken bytes written lines r tops e h quiet stopped known rest =
     let walk = sym (walked_by (bytes ++ rest) r h.rows h.limit) ∙ (subst (ReadAs bytes h.handed r) stopped h.read).1 known rest in
-    let events : (walked (bytes ++ rest)).events ≡ h.handed = ap (λ w. w.events) walk ∙ append-nil (h.handed ++ ready r) ∙ all_events h.handed r quiet in
+    let events : (walk_of_tags (bytes ++ rest)).events ≡ h.handed = ap (λ w. w.events) walk ∙ append-nil (h.handed ++ ready r) ∙ all_events h.handed r quiet in
     (ap (λ w. w.ending) walk, h.shown ∙ ap (shown_events 0) (sym events))
 
 -- if all bytes were taken, the lines are those of all events
 pub shows_whole : (fed written lines : List ℕ) (r : Reader) (tops : Tops) → HasShown fed written r tops lines → r.error ≡ None → ready r ≡ []
-    → written ++ lines ≡ shown_events 0 (walked fed).events
+    → written ++ lines ≡ shown_events 0 (walk_of_tags fed).events
 shows_whole fed written lines r tops h going quiet =
     let walk : TellsAs fed h.handed r None = subst (TellsAs fed h.handed r) going (told fed h.handed r h.read) in
-    let events : (walked fed).events ≡ h.handed =
+    let events : (walk_of_tags fed).events ≡ h.handed =
     ap (λ w. w.events) (sym (walked_by fed r h.rows h.limit)) ∙ ap (λ w. w.events) walk ∙ all_events h.handed r quiet in
     h.shown ∙ ap (shown_events 0) (sym events)
 
 -- bytes within the limit are read whole
-pub within_whole : (bytes : List ℕ) → length bytes ≤ tags_limit → shown_text bytes ≡ shown_events 0 (walked bytes).events
-within_whole bytes within = ap (λ l. shown_events 0 (walked l).events) (take_all tags_limit bytes within)
+pub within_whole : (bytes : List ℕ) → length bytes ≤ tags_limit → shown_text bytes ≡ shown_events 0 (walk_of_tags bytes).events
+within_whole bytes within = ap (λ l. shown_events 0 (walk_of_tags l).events) (take_all tags_limit bytes within)
 
 pub showing_text : (fed written : List ℕ) (shower : Shower) → IsShowing fed written shower → length fed ≤ tags_limit → written ++ shower.lines.items ≡ shown_text fed
 showing_text fed written shower h within =
@@ -165,7 +165,7 @@ pub begins_showing : (fed written : List ℕ) (shower : Shower) → IsShowing fe
 begins_showing fed written shower h within = begins_all fed (written ++ shower.lines.items) (showing_text fed written shower h within)
 
 stops_as : (bytes lines : List ℕ) (e : StreamError)
-    → (e ≢ stream.Memory → (rest : List ℕ) → ((walked (take tags_limit (bytes ++ rest))).ending ≡ broken e) × (lines ≡ shown_text (bytes ++ rest)))
+    → (e ≢ stream.Memory → (rest : List ℕ) → ((walk_of_tags (take tags_limit (bytes ++ rest))).ending ≡ broken e) × (lines ≡ shown_text (bytes ++ rest)))
     → BeginsShown bytes lines → StopsShowing bytes lines (tags_fault e)
 stops_as bytes lines (stream.TooLarge at) all some = ((λ is. absurd (cc)), all (λ is. absurd (cc)))
 stops_as bytes lines (stream.TooDeep at) all some = ((λ is. absurd (cc)), all (λ is. absurd (cc)))
@@ -187,8 +187,8 @@ stops_showing fed front piece more lines e within last split =
     let all = last.all known behind in
     let whole : take tags_limit ((fed ++ piece) ++ rest) ≡ (fed ++ front) ++ behind =
     ap (λ l. take tags_limit (l ++ rest)) same ∙ ap (take tags_limit) (append_assoc (fed ++ front) more rest) ∙ within_limit (fed ++ front) (more ++ rest) within in
-    (ap (λ l. (walked l).ending) whole ∙ all.0, all.1 ∙ ap (λ l. shown_events 0 (walked l).events) (sym whole)))
-    (some.0, some.1 ∙ ap (λ l. shown_events 0 (take some.0 (walked l).events)) cut)
+    (ap (λ l. (walk_of_tags l).ending) whole ∙ all.0, all.1 ∙ ap (λ l. shown_events 0 (walk_of_tags l).events) (sym whole)))
+    (some.0, some.1 ∙ ap (λ l. shown_events 0 (take some.0 (walk_of_tags l).events)) cut)
 
 -- more bytes than are read
 pub stops_long : (fed front behind piece written : List ℕ) (shower : Shower) → length (fed ++ front) ≡ tags_limit → 0 < length behind → piece ≡ front ++ behind
@@ -198,7 +198,7 @@ stops_long fed front behind piece written shower full more split h =
     let cut : take tags_limit (fed ++ piece) ≡ fed ++ front = ap (take tags_limit) same ∙ take_at (fed ++ front) behind tags_limit full in (
       too_long fed front behind piece shower.counter.reader shower.counter.tops full more split (is_counted (fed ++ front) written shower h).counted,
       shows_whole (fed ++ front) written shower.lines.items shower.counter.reader shower.counter.tops h.shown h.going h.quiet
-          ∙ ap (λ l. shown_events 0 (walked l).events) (sym cut),
+          ∙ ap (λ l. shown_events 0 (walk_of_tags l).events) (sym cut),
     )
 
 -- what is shown when showing stops
@@ -217,7 +217,7 @@ stops_at bytes lines Memory stop = tt
 -- bytes past the limit are not shown, whatever follows them
 long_text : (bytes lines rest : List ℕ) → StopsShowing bytes lines (Own TooLong) → lines ≡ shown_text (bytes ++ rest)
 long_text bytes lines rest stop =
-    stop.1 ∙ ap (λ l. shown_events 0 (walked l).events) (sym (take-append-le tags_limit bytes rest (let more = stop.0.long in omega arith)))
+    stop.1 ∙ ap (λ l. shown_events 0 (walk_of_tags l).events) (sym (take-append-le tags_limit bytes rest (let more = stop.0.long in omega arith)))
 
 shows_all : (before after : InputSeen) (bytes lines : List ℕ) (fault : Fault TagsFault) → Consumes before.left after.left bytes → StopsShowing bytes lines fault
     → ShowsAll fault before after lines
@@ -296,7 +296,7 @@ stopped_memory {A} bytes lines r e is memory some =
 pub more_some : (bytes more whole lines : List ℕ) → bytes ++ more ≡ whole → ShowsSome bytes lines → ShowsSome whole lines
 more_some bytes more whole lines is some rest =
     let s = some (more ++ rest) in
-    (s.0, s.1 ∙ ap (λ l. shown_events 0 (take s.0 (walked l).events)) (sym (append_assoc bytes more rest) ∙ ap (λ l. l ++ rest) is))
+    (s.0, s.1 ∙ ap (λ l. shown_events 0 (take s.0 (walk_of_tags l).events)) (sym (append_assoc bytes more rest) ∙ ap (λ l. l ++ rest) is))
 
 -- the lines after a call that took bytes, or stopped within them
 pub begins_taken : {A : Type 0} (r : Result A (Fault TagsFault)) (bytes written : List ℕ) (shower : Shower)

@@ -15,7 +15,7 @@ use Rattle.dmap_stream.specs.Events.{events_of, events_of_all}
 use Rattle.dmap_stream.specs.Walk.{Walk, between}
 use Rattle.dmap_stream.specs.declared.event.Event.{Event}
 use Rattle.dmap_stream.specs.declared.event.Event.TheVariants.{Close}
-use Rattle.tag_commands.specs.TopTags.{walked, AreTopTags}
+use Rattle.tag_commands.specs.TopTags.{walk_of_tags, AreTopTags}
 use Rattle.tag_commands.specs.Counting.{with_tag, after_event, top_tags}
 use Rattle.tag_commands.specs.TopTags.{tag_limit}
 use Rattle.tag_commands.specs.declared.tops.Tops.{Tops}
@@ -73,20 +73,20 @@ all_counted ended at (t ∷ ts) =
     ∙ (omega arith)
 
 -- bytes that end between two top tags are tags
-pub some_tags : (bytes : List ℕ) → AreBytes bytes → (walked bytes).ending ≡ between → (tags : List Tree) × AreTopTags tags bytes
+pub some_tags : (bytes : List ℕ) → AreBytes bytes → (walk_of_tags bytes).ending ≡ between → (tags : List Tree) × AreTopTags tags bytes
 some_tags bytes small is =
     let found = tags_found standard_rows tag_limit bytes small is in
     (found.0, record { spelled = found.1; accepted = found.2 })
 
 -- the walk over tags has their events, and ends between two
-pub tags_walked : (tags : List Tree) (bytes : List ℕ) → AreTopTags tags bytes → walked bytes ≡ record { events = events_of_all 0 (trees_of tags) []; ending = between }
-tags_walked tags bytes h = ap walked h.spelled ∙ tags_read standard_rows tag_limit tags (omega arith) h.accepted
+pub tags_walked : (tags : List Tree) (bytes : List ℕ) → AreTopTags tags bytes → walk_of_tags bytes ≡ record { events = events_of_all 0 (trees_of tags) []; ending = between }
+tags_walked tags bytes h = ap walk_of_tags h.spelled ∙ tags_read standard_rows tag_limit tags (omega arith) h.accepted
 
 -- it counts as many top tags
-pub tags_counted : (tags : List Tree) (bytes : List ℕ) → AreTopTags tags bytes → top_tags (walked bytes).events ≡ length tags
+pub tags_counted : (tags : List Tree) (bytes : List ℕ) → AreTopTags tags bytes → top_tags (walk_of_tags bytes).events ≡ length tags
 tags_counted tags bytes h = ap (λ (w : Walk). top_tags w.events) (tags_walked tags bytes h) ∙ all_counted 0 0 tags ∙ (omega arith)
 
 -- its lines are those of the tags
-pub tags_shown : (tags : List Tree) (bytes : List ℕ) → AreTopTags tags bytes → shown_events 0 (walked bytes).events ≡ shown_tags 0 (trees_of tags)
+pub tags_shown : (tags : List Tree) (bytes : List ℕ) → AreTopTags tags bytes → shown_events 0 (walk_of_tags bytes).events ≡ shown_tags 0 (trees_of tags)
 tags_shown tags bytes h =
     ap (λ (w : Walk). shown_events 0 w.events) (tags_walked tags bytes h) ∙ all_events_show 0 0 (trees_of tags) [] ∙ append-nil (shown_tags 0 (trees_of tags))

@@ -14,7 +14,7 @@ use Rattle.command_core.specs.declared.fault.Fault.TheVariants.{Own, Read, Memor
 use Rattle.tag_commands.specs.declared.tags_fault.TagsFault.{TagsFault}
 use Rattle.tag_commands.specs.declared.tags_fault.TagsFault.TheVariants.{Broken, TooLong}
 use Rattle.tag_commands.specs.declared.tops.Tops.{Tops}
-use Rattle.tag_commands.specs.TopTags.{tags_limit, tag_limit, walked, IsTooLong}
+use Rattle.tag_commands.specs.TopTags.{tags_limit, tag_limit, walk_of_tags, IsTooLong}
 
 -- no list is open, and no top tag has ended
 abbrev pub no_tops : Tops
@@ -55,16 +55,16 @@ pub record IsCounted (fed : List ℕ) (counter : Counter) : Type 0 where
 
 -- the error is that of all bytes that begin with these
 abbrev pub IsShown : List ℕ → StreamError → Type 0
-IsShown bytes error = (error ≢ stream.Memory) → (rest : List ℕ) → (walked (bytes ++ rest)).ending ≡ broken error
+IsShown bytes error = (error ≢ stream.Memory) → (rest : List ℕ) → (walk_of_tags (bytes ++ rest)).ending ≡ broken error
 
 -- the error of these bytes, whatever follows them
 abbrev pub StopsAt : List ℕ → Fault TagsFault → Type 0
-StopsAt bytes (Own (Broken error)) = (error ≢ stream.Memory) × ((rest : List ℕ) → (walked (take tags_limit (bytes ++ rest))).ending ≡ broken error)
+StopsAt bytes (Own (Broken error)) = (error ≢ stream.Memory) × ((rest : List ℕ) → (walk_of_tags (take tags_limit (bytes ++ rest))).ending ≡ broken error)
 StopsAt bytes (Own TooLong) = IsTooLong bytes
 StopsAt bytes Read = ⊥
 StopsAt bytes Memory = Unit {0}
 
 -- the bytes end between two top tags, which are counted, or inside one
 abbrev pub EndsCounted : List ℕ → Result ℕ StreamError → Type 0
-EndsCounted bytes (Ok tags) = ((walked bytes).ending ≡ between) × (tags ≡ top_tags (walked bytes).events)
-EndsCounted bytes (Err error) = ((walked bytes).ending ≡ inside) × (error ≡ stream.Truncated (length bytes))
+EndsCounted bytes (Ok tags) = ((walk_of_tags bytes).ending ≡ between) × (tags ≡ top_tags (walk_of_tags bytes).events)
+EndsCounted bytes (Err error) = ((walk_of_tags bytes).ending ≡ inside) × (error ≡ stream.Truncated (length bytes))

@@ -19,7 +19,7 @@ use Rattle.command_core.specs.Causes.{Cause, OfInput, StopsBy}
 use Rattle.command_core.specs.Meanings.{Meaning, writes_nothing_before, leaves_no_share, may_read, says_no_more}
 use Rattle.tag_commands.specs.declared.learn.LearnFault.{LearnFault}
 use Rattle.tag_commands.specs.declared.learn.LearnFault.TheVariants.{Broken, Table}
-use Rattle.tag_commands.specs.TopTags.{tag_limit, HasNoFault, walked, tags_text}
+use Rattle.tag_commands.specs.TopTags.{tag_limit, HasNoFault, walk_of_tags, tags_text}
 use Rattle.tag_commands.specs.Codes.{code_lines}
 
 -- the bytes begin with a whole tag of the standard table, within the limit of a top tag, and continue with others
@@ -41,11 +41,11 @@ pub record IsReply (rows : List CodeRow) (input : List ℕ) : Type 0 where
 -- the input begins with no whole tag: it has a malformed tag, or it ends too early
 pub record HasNoReply (error : StreamError) (input : List ℕ) : Type 0 where
   pub none : HasNoTag input
-  pub told : error ≡ refusal (length input) (walked input).ending
+  pub told : error ≡ refusal (length input) (walk_of_tags input).ending
 
 -- a tag before other bytes states no table, for this reason; or it states one, and is not the whole input
-abbrev pub TellsNone : (error : CodeError) → (tag : Tree) → (rest : List ℕ) → Type 0
-TellsNone error tag rest =
+abbrev pub StatesNoTable : (error : CodeError) → (tag : Tree) → (rest : List ℕ) → Type 0
+StatesNoTable error tag rest =
     (table_of tag ≡ Err error) ⊎ ((error ≡ table.NotReply) × ((rest ≢ []) × ((rows : List CodeRow) × (table_of tag ≡ Ok rows))))
 
 -- the input begins with such a tag
@@ -53,7 +53,7 @@ pub record IsReplyRefused (error : CodeError) (input : List ℕ) : Type 0 where
   pub tag : Tree
   pub rest : List ℕ
   pub whole : BeginsWith tag rest input
-  pub refused : TellsNone error tag rest
+  pub refused : StatesNoTable error tag rest
 
 -- the bytes begin with no whole tag yet, and no tag in them is malformed
 pub record IsUnfinished (bytes : List ℕ) : Type 0 where

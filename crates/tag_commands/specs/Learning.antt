@@ -11,7 +11,7 @@ use Rattle.command_core.specs.Seen.{InputSeen}
 use Rattle.tag_commands.specs.declared.learn.LearnFault.{LearnFault}
 use Rattle.tag_commands.specs.declared.learn.LearnFault.TheVariants.{Broken, Table}
 use Rattle.tag_commands.specs.declared.learn.Learner.{Learner}
-use Rattle.tag_commands.specs.TopTags.{walked}
+use Rattle.tag_commands.specs.TopTags.{walk_of_tags}
 use Rattle.tag_commands.specs.Counting.{IsCounted}
 use Rattle.tag_commands.specs.LearnCodes.{HasNoTag, HasNoReply, IsReply, IsReplyRefused}
 
@@ -31,7 +31,7 @@ HasReadReply rows before after = (fed : List ℕ) × IsReply rows fed × Consume
 
 -- the error of just these bytes
 abbrev pub IsRefusal : List ℕ → Fault LearnFault → Type 0
-IsRefusal bytes (Own (Broken error)) = HasNoTag bytes × ((error ≢ stream.Memory) × ((walked bytes).ending ≡ broken error))
+IsRefusal bytes (Own (Broken error)) = HasNoTag bytes × ((error ≢ stream.Memory) × ((walk_of_tags bytes).ending ≡ broken error))
 IsRefusal bytes (Own (Table error)) = (error ≢ table.Memory) × IsReplyRefused error bytes
 IsRefusal bytes Read = ⊥
 IsRefusal bytes Memory = Unit {0}

@@ -11,12 +11,12 @@ use Rattle.command_core.specs.Seen.{InputSeen, OutputSeen, ShareSeen, no_share}
 use Rattle.command_core.specs.Causes.{HasReadOn, piece_limit}
 use Rattle.command_core.specs.Meanings.{Meaning}
 use Rattle.tag_commands.specs.declared.tags_fault.TagsFault.{TagsFault}
-use Rattle.tag_commands.specs.TopTags.{tags_limit, walked, HasReadTags, IsSoundSoFar}
+use Rattle.tag_commands.specs.TopTags.{tags_limit, walk_of_tags, HasReadTags, IsSoundSoFar}
 use Rattle.tag_commands.specs.Check.{check_meaning}
 
 -- the events in the bytes up to the limit
 abbrev pub read_events : List ℕ → List Event
-read_events bytes = (walked (take tags_limit bytes)).events
+read_events bytes = (walk_of_tags (take tags_limit bytes)).events
 
 -- the lines of all of them
 abbrev pub shown_text : List ℕ → List ℕ

@@ -19,11 +19,11 @@ use Rattle.tag_commands.specs.declared.show_back.TextFault.{TextFault}
 use Rattle.tag_commands.specs.declared.show_back.TextFault.TheVariants.{Line, TooLong}
 
 -- the limit of the text: 64 MiB
-abbrev pub text_limit : ℕ
-text_limit = 67108864
+abbrev pub shown_text_limit : ℕ
+shown_text_limit = 67108864
 
 abbrev pub IsWithin : List ℕ → Type 0
-IsWithin bytes = length bytes ≤ text_limit
+IsWithin bytes = length bytes ≤ shown_text_limit
 
 -- the input, within its limit, is a text that shows these tags of the standard table
 pub record ShowsBack (tags : List Tree) (input : List ℕ) : Type 0 where
@@ -68,7 +68,7 @@ text_status TooLong = 8
 -- lines count from 1
 abbrev pub text_cause : TextFault → Cause
 text_cause (Line line) = OfInput (1 ≤ line) (IsTextRefused line)
-text_cause TooLong = OfInput (Unit {0}) (λ input. text_limit < length input)
+text_cause TooLong = OfInput (Unit {0}) (λ input. shown_text_limit < length input)
 
 abbrev pub show_back_meaning : Meaning
 show_back_meaning = record {

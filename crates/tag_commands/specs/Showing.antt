@@ -17,7 +17,7 @@ use Rattle.tag_commands.specs.declared.show.Stop.{Stop}
 use Rattle.tag_commands.specs.declared.show.Stop.TheVariants.{Input, Output}
 use Rattle.tag_commands.specs.declared.tops.Tops.{Tops}
 use Rattle.command_core.specs.Seen.{InputSeen, OutputSeen, no_share}
-use Rattle.tag_commands.specs.TopTags.{tags_limit, tag_limit, walked, IsTooLong, StopsReading}
+use Rattle.tag_commands.specs.TopTags.{tags_limit, tag_limit, walk_of_tags, IsTooLong, StopsReading}
 use Rattle.tag_commands.specs.Counting.{after_event, no_tops}
 use Rattle.tag_commands.specs.Show.{shown_text, BeginsShown, IsShownCut, IsShownBefore}
 use Rattle.command_core.specs.Endings.{IsWritten, IsCut}
@@ -45,11 +45,11 @@ pub record IsShowing (fed written : List ℕ) (shower : Shower) : Type 0 where
 
 -- the lines of the first events of all bytes that begin with these
 abbrev pub ShowsSome : (bytes lines : List ℕ) → Type 0
-ShowsSome bytes lines = (rest : List ℕ) → (count : ℕ) × (lines ≡ shown_events 0 (take count (walked (bytes ++ rest)).events))
+ShowsSome bytes lines = (rest : List ℕ) → (count : ℕ) × (lines ≡ shown_events 0 (take count (walk_of_tags (bytes ++ rest)).events))
 
 -- the error of all bytes that begin with these, and the lines of all events before it
 abbrev pub ShowsBroken : (bytes lines : List ℕ) → StreamError → Type 0
-ShowsBroken bytes lines error = (rest : List ℕ) → ((walked (bytes ++ rest)).ending ≡ broken error) × (lines ≡ shown_events 0 (walked (bytes ++ rest)).events)
+ShowsBroken bytes lines error = (rest : List ℕ) → ((walk_of_tags (bytes ++ rest)).ending ≡ broken error) × (lines ≡ shown_events 0 (walk_of_tags (bytes ++ rest)).events)
 
 -- the lines when a reader refused
 pub record IsLast (bytes lines : List ℕ) (error : StreamError) : Type 0 where
@@ -60,7 +60,7 @@ pub record IsLast (bytes lines : List ℕ) (error : StreamError) : Type 0 where
 abbrev pub StopsShowing : (bytes lines : List ℕ) → Fault TagsFault → Type 0
 StopsShowing bytes lines (Own (Broken error)) =
     (error ≢ stream.Memory)
-    × ((rest : List ℕ) → ((walked (take tags_limit (bytes ++ rest))).ending ≡ broken error) × (lines ≡ shown_text (bytes ++ rest)))
+    × ((rest : List ℕ) → ((walk_of_tags (take tags_limit (bytes ++ rest))).ending ≡ broken error) × (lines ≡ shown_text (bytes ++ rest)))
 StopsShowing bytes lines (Own TooLong) = IsTooLong bytes × (lines ≡ shown_text bytes)
 StopsShowing bytes lines Read = ⊥
 StopsShowing bytes lines Memory = BeginsShown bytes lines

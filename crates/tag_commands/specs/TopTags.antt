@@ -25,8 +25,8 @@ abbrev pub tag_limit : ℕ
 tag_limit = 1073741824
 
 -- what bytes say as tags of the standard table
-abbrev pub walked : List ℕ → Walk
-walked bytes = walk_of standard_rows tag_limit bytes
+abbrev pub walk_of_tags : List ℕ → Walk
+walk_of_tags bytes = walk_of standard_rows tag_limit bytes
 
 -- the bytes are these tags, each within the limit of a top tag
 pub record AreTopTags (tags : List Tree) (bytes : List ℕ) : Type 0 where
@@ -49,7 +49,7 @@ pub record HasReadTags (before after : InputSeen) : Type 0 where
 
 -- no tag in the bytes is malformed
 abbrev pub HasNoFault : List ℕ → Type 0
-HasNoFault bytes = (error : StreamError) → (walked bytes).ending ≢ broken error
+HasNoFault bytes = (error : StreamError) → (walk_of_tags bytes).ending ≢ broken error
 
 -- so far no tag is malformed, within the limit
 pub record IsSoundSoFar (bytes : List ℕ) : Type 0 where
@@ -59,12 +59,12 @@ pub record IsSoundSoFar (bytes : List ℕ) : Type 0 where
 -- the bytes end inside a top tag
 pub record IsCutShort (error : StreamError) (input : List ℕ) : Type 0 where
   pub within : length input ≤ tags_limit
-  pub ending : (walked input).ending ≡ inside
+  pub ending : (walk_of_tags input).ending ≡ inside
   pub told : error ≡ Truncated (length input)
 
 -- the error of an input: that of the first malformed tag within the limit, or of its end
 abbrev pub HasTagFault : StreamError → List ℕ → Type 0
-HasTagFault error input = ((walked (take tags_limit input)).ending ≡ broken error) ⊎ IsCutShort error input
+HasTagFault error input = ((walk_of_tags (take tags_limit input)).ending ≡ broken error) ⊎ IsCutShort error input
 
 -- the input is past the limit, and has no malformed tag within it
 pub record IsTooLong (input : List ℕ) : Type 0 where

@@ -2,7 +2,7 @@
 
 ghost use Rattle.std.specs.Prelude.{◌≡◌, ◌≤◌, ℕ, List, length, IfOk, IfErr};
 ghost use Rattle.std.specs.Io.KnownBytes.{Consumes, IsAtEnd};
-ghost use Rattle.command_core.specs.Seen.{Around, input_of, output_of, told_beside, no_share};
+ghost use Rattle.command_core.specs.Seen.{Around, input_of, output_of, run_over_streams, no_share};
 ghost use Rattle.command_core.specs.Endings.{IsAnswered};
 ghost use Rattle.tag_commands.specs.TopTags.{tags_limit, StopsReading};
 ghost use Rattle.tag_commands.specs.Check.{check_line, check_meaning, IsChecked};
@@ -18,7 +18,7 @@ use std::alloc::{AllocError, Global};
 /// Runs `check`: one line states the number of top tags and bytes of the input.
 pub fn check_tags<I: Source, W: Sink>(alloc: Global, input: &mut I, output: &mut W) -> Outcome
     ensures { (around : Around) → IsAnswered check_meaning
-        (told_beside around
+        (run_over_streams around
         (input_of I.Source input.old)
         (input_of I.Source input.new)
         (output_of W.Sink output.old)

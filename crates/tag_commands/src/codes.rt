@@ -2,7 +2,7 @@
 
 ghost use Rattle.std.specs.Prelude.{◌≡◌, ◌++◌, IfOk, OnOk};
 ghost use Rattle.code_table.specs.Standard.{standard_rows};
-ghost use Rattle.command_core.specs.Seen.{Around, InputSeen, output_of, told_beside};
+ghost use Rattle.command_core.specs.Seen.{Around, InputSeen, output_of, run_over_streams};
 ghost use Rattle.command_core.specs.Endings.{IsAnswered};
 ghost use Rattle.tag_commands.specs.Codes.{code_line, code_lines, codes_meaning};
 
@@ -16,7 +16,7 @@ use std::alloc::{AllocError, Global};
 /// Runs `codes`: writes the lines of the standard table. It reads nothing.
 pub fn list_codes<W: Sink>(alloc: Global, output: &mut W) -> Outcome
     ensures { (around : Around) (input : InputSeen) → IsAnswered codes_meaning
-        (told_beside around input input
+        (run_over_streams around input input
         (output_of W.Sink output.old)
         (output_of W.Sink output.new))
         result }

@@ -1,7 +1,7 @@
 //! The command `codes --learn`: the table that a reply to `/content-codes` states.
 
 ghost use Rattle.std.specs.Prelude.{◌≡◌, ◌++◌, ◌∷◌, [], ℕ, List, length, IfOk, IfErr, OnOk, MatchOption};
-ghost use Rattle.command_core.specs.Seen.{Around, input_of, output_of, told_beside, no_share};
+ghost use Rattle.command_core.specs.Seen.{Around, input_of, output_of, run_over_streams, no_share};
 ghost use Rattle.command_core.specs.Endings.{IsAnswered};
 ghost use Rattle.tag_commands.specs.LearnCodes.{IsUnfinished, IsReply, IsLearned, StopsReading, table_text, learn_line, learn_status, table_fault, broken_fault, learn_meaning};
 ghost use Rattle.tag_commands.specs.Learning.{is_whole, IsLearning, HasReadReply, LearnStops, IsRefusal};
@@ -26,9 +26,9 @@ pub enum LearnFault {
 }
 
 impl Refusal for LearnFault {
-    ghost told_line = { learn_line };
+    ghost error_line = { learn_line };
 
-    ghost told_status = { learn_status };
+    ghost error_status = { learn_status };
 
     fn line(&self, alloc: Global) -> Result<Vec<u8>, AllocError> {
         match self {
@@ -85,7 +85,7 @@ fn table_fault(error: CodeError) -> Fault<LearnFault>
 /// Runs `codes --learn`: writes the lines of the table that the input states.
 pub fn learn_codes<I: Source, W: Sink>(alloc: Global, input: &mut I, output: &mut W) -> Outcome
     ensures { (around : Around) → IsAnswered learn_meaning
-        (told_beside around
+        (run_over_streams around
         (input_of I.Source input.old)
         (input_of I.Source input.new)
         (output_of W.Sink output.old)

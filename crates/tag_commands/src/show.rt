@@ -3,7 +3,7 @@
 ghost use Rattle.std.specs.Prelude.{◌≡◌, ◌+◌, ◌≤◌, ◌++◌, [], ℕ, List, length, IfOk, IfErr, OnOk};
 ghost use Rattle.std.specs.Io.KnownBytes.{Consumes, IsAtEnd};
 ghost use Rattle.dmap_stream.specs.Reader.{ready};
-ghost use Rattle.command_core.specs.Seen.{Around, input_of, output_of, told_beside, no_share};
+ghost use Rattle.command_core.specs.Seen.{Around, input_of, output_of, run_over_streams, no_share};
 ghost use Rattle.command_core.specs.Endings.{IsWritten, IsAnswered};
 ghost use Rattle.tag_commands.specs.TopTags.{tags_limit};
 ghost use Rattle.tag_commands.specs.Counting.{IsCounted, EndsCounted};
@@ -21,7 +21,7 @@ use std::alloc::{AllocError, Global};
 /// Runs `show`: writes the lines of the input's tags as they are read.
 pub fn show_tags<I: Source, W: Sink>(alloc: Global, input: &mut I, output: &mut W) -> Outcome
     ensures { (around : Around) → IsAnswered show_meaning
-        (told_beside around
+        (run_over_streams around
         (input_of I.Source input.old)
         (input_of I.Source input.new)
         (output_of W.Sink output.old)

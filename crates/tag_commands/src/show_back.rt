@@ -6,9 +6,9 @@ ghost use Rattle.dmap_tags.specs.Spelling.{spellings, are_spellable};
 ghost use Rattle.dmap_tags.specs.Tree.{trees_of};
 ghost use Rattle.code_table.specs.Standard.{standard_rows};
 ghost use Rattle.dmap_show.specs.Readable.{Shows};
-ghost use Rattle.command_core.specs.Seen.{Around, input_of, output_of, told_beside, no_share};
+ghost use Rattle.command_core.specs.Seen.{Around, input_of, output_of, run_over_streams, no_share};
 ghost use Rattle.command_core.specs.Endings.{IsAnswered};
-ghost use Rattle.tag_commands.specs.ShowBack.{text_limit, text_line, text_status, line_at, IsShownBack, IsTextFault, StopsReading, show_fault, show_back_meaning};
+ghost use Rattle.tag_commands.specs.ShowBack.{shown_text_limit, text_line, text_status, line_at, IsShownBack, IsTextFault, StopsReading, show_fault, show_back_meaning};
 
 use code_table::CodeTable;
 use command_core::{Fault, Outcome, Refusal, read_fault, write_result};
@@ -32,9 +32,9 @@ pub enum TextFault {
 }
 
 impl Refusal for TextFault {
-    ghost told_line = { text_line };
+    ghost error_line = { text_line };
 
-    ghost told_status = { text_status };
+    ghost error_status = { text_status };
 
     fn line(&self, alloc: Global) -> Result<Vec<u8>, AllocError> {
         match self {
@@ -73,7 +73,7 @@ fn show_fault(error: ShowError) -> Fault<TextFault>
 /// Runs `show --back`: writes the bytes of the tags that the input shows.
 pub fn read_shown<I: Source, W: Sink>(alloc: Global, input: &mut I, output: &mut W) -> Outcome
     ensures { (around : Around) → IsAnswered show_back_meaning
-        (told_beside around
+        (run_over_streams around
         (input_of I.Source input.old)
         (input_of I.Source input.new)
         (output_of W.Sink output.old)
@@ -108,7 +108,7 @@ fn bytes_shown<I: Source>(alloc: Global, input: &mut I) -> Result<Vec<u8>, Fault
 
 /// Returns the tags that a text shows.
 fn tags_shown(alloc: Global, bytes: &[u8]) -> Result<Tags, Fault<TextFault>>
-    requires { length bytes.now ≤ text_limit }
+    requires { length bytes.now ≤ shown_text_limit }
     ensures text { IfOk result (λ _. is_utf8 bytes.now ≡ true) }
     ensures shown { IfOk result (λ tags. Shows standard_rows bytes.now tags) }
     ensures refused { IfErr result (λ fault. IsTextFault bytes.now fault) }
@@ -129,7 +129,7 @@ fn tags_shown(alloc: Global, bytes: &[u8]) -> Result<Tags, Fault<TextFault>>
 
 /// Returns the line, counted from 1, of an offset in a text.
 fn line_at(text: &[u8], place: usize) -> u64
-    requires within { length text.now ≤ text_limit }
+    requires within { length text.now ≤ shown_text_limit }
     requires there { place ≤ length text.now }
     ensures { result ≡ line_at place text.now }
 {

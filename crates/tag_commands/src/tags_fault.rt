@@ -20,9 +20,9 @@ pub enum TagsFault {
 impl Refusal for TagsFault {
     ghost use Rattle.tag_commands.specs.TopTags.{tags_line, tags_status};
 
-    ghost told_line = { tags_line };
+    ghost error_line = { tags_line };
 
-    ghost told_status = { tags_status };
+    ghost error_status = { tags_status };
 
     fn line(&self, alloc: Global) -> Result<Vec<u8>, AllocError> {
         match self {

@@ -1,5 +1,5 @@
 use Rattle.std.proofs.Common.{sym, subst}
-use Rattle.command_core.specs.Seen.{Told, input_seen, output_seen, told_beside}
+use Rattle.command_core.specs.Seen.{Run, input_seen, output_seen, run_over_streams}
 use Rattle.command_core.specs.Endings.{IsAnswered}
 use Rattle.daapshare_words.specs.Words.{IsLocalRanged}
 use Rattle.daapshare_words.specs.declared.command.LocalCommand.{LocalCommand}
@@ -9,7 +9,7 @@ use Rattle.command_runs.proofs.local.run_local.Goals as goal
 pub returns-in-List : goal.returns-in-List
 returns-in-List g c =
     λ around.
-    let told : Told = told_beside around
+    let told : Run = run_over_streams around
     (input_seen (g.I.Source.left c.args.input.now) (g.I.Faulted.faults c.args.input.now)) (input_seen (g.I.Source.left c.run_list.new.input) (g.I.Faulted.faults c.run_list.new.input))
     (output_seen (g.W.Sink.taken c.args.output.now) (g.W.Faulted.faults c.args.output.now)) (output_seen (g.W.Sink.taken c.run_list.new.output) (g.W.Faulted.faults c.run_list.new.output)) in
     subst (λ (asked : LocalCommand). IsAnswered (meaning_of asked) told c.run_list.result) (sym c.in-List.is)
@@ -18,7 +18,7 @@ returns-in-List g c =
 pub returns-in-Show : goal.returns-in-Show
 returns-in-Show g c =
     λ around.
-    let told : Told = told_beside around
+    let told : Run = run_over_streams around
     (input_seen (g.I.Source.left c.args.input.now) (g.I.Faulted.faults c.args.input.now)) (input_seen (g.I.Source.left c.run_show.new.input) (g.I.Faulted.faults c.run_show.new.input))
     (output_seen (g.W.Sink.taken c.args.output.now) (g.W.Faulted.faults c.args.output.now)) (output_seen (g.W.Sink.taken c.run_show.new.output) (g.W.Faulted.faults c.run_show.new.output)) in
     subst (λ (asked : LocalCommand). IsAnswered (meaning_of asked) told c.run_show.result) (sym c.in-Show.is)
@@ -27,7 +27,7 @@ returns-in-Show g c =
 pub returns-in-Check : goal.returns-in-Check
 returns-in-Check g c =
     λ around.
-    let told : Told = told_beside around
+    let told : Run = run_over_streams around
     (input_seen (g.I.Source.left c.args.input.now) (g.I.Faulted.faults c.args.input.now)) (input_seen (g.I.Source.left c.check_tags.new.input) (g.I.Faulted.faults c.check_tags.new.input))
     (output_seen (g.W.Sink.taken c.args.output.now) (g.W.Faulted.faults c.args.output.now)) (output_seen (g.W.Sink.taken c.check_tags.new.output) (g.W.Faulted.faults c.check_tags.new.output)) in
     subst (λ (asked : LocalCommand). IsAnswered (meaning_of asked) told c.check_tags.result) (sym c.in-Check.is)
@@ -36,7 +36,7 @@ returns-in-Check g c =
 pub returns-in-Codes : goal.returns-in-Codes
 returns-in-Codes g c =
     λ around.
-    let told : Told = told_beside around
+    let told : Run = run_over_streams around
     (input_seen (g.I.Source.left c.args.input.now) (g.I.Faulted.faults c.args.input.now)) (input_seen (g.I.Source.left c.run_codes.new.input) (g.I.Faulted.faults c.run_codes.new.input))
     (output_seen (g.W.Sink.taken c.args.output.now) (g.W.Faulted.faults c.args.output.now)) (output_seen (g.W.Sink.taken c.run_codes.new.output) (g.W.Faulted.faults c.run_codes.new.output)) in
     subst (λ (asked : LocalCommand). IsAnswered (meaning_of asked) told c.run_codes.result) (sym c.in-Codes.is)
@@ -45,7 +45,7 @@ returns-in-Codes g c =
 pub returns-in-Replay : goal.returns-in-Replay
 returns-in-Replay g c =
     λ around.
-    let told : Told = told_beside around
+    let told : Run = run_over_streams around
     (input_seen (g.I.Source.left c.args.input.now) (g.I.Faulted.faults c.args.input.now)) (input_seen (g.I.Source.left c.run_replay.new.input) (g.I.Faulted.faults c.run_replay.new.input))
     (output_seen (g.W.Sink.taken c.args.output.now) (g.W.Faulted.faults c.args.output.now)) (output_seen (g.W.Sink.taken c.run_replay.new.output) (g.W.Faulted.faults c.run_replay.new.output)) in
     subst (λ (asked : LocalCommand). IsAnswered (meaning_of asked) told c.run_replay.result) (sym c.in-Replay.is)
@@ -54,7 +54,7 @@ returns-in-Replay g c =
 pub returns-in-Rehearse : goal.returns-in-Rehearse
 returns-in-Rehearse g c =
     λ around.
-    let told : Told = told_beside around
+    let told : Run = run_over_streams around
     (input_seen (g.I.Source.left c.args.input.now) (g.I.Faulted.faults c.args.input.now)) (input_seen (g.I.Source.left c.run_rehearse.new.input) (g.I.Faulted.faults c.run_rehearse.new.input))
     (output_seen (g.W.Sink.taken c.args.output.now) (g.W.Faulted.faults c.args.output.now)) (output_seen (g.W.Sink.taken c.run_rehearse.new.output) (g.W.Faulted.faults c.run_rehearse.new.output)) in
     subst (λ (asked : LocalCommand). IsAnswered (meaning_of asked) told c.run_rehearse.result) (sym c.in-Rehearse.is)
@@ -63,7 +63,7 @@ returns-in-Rehearse g c =
 pub returns-in-Json : goal.returns-in-Json
 returns-in-Json g c =
     λ around.
-    let told : Told = told_beside around
+    let told : Run = run_over_streams around
     (input_seen (g.I.Source.left c.args.input.now) (g.I.Faulted.faults c.args.input.now)) (input_seen (g.I.Source.left c.run_json.new.input) (g.I.Faulted.faults c.run_json.new.input))
     (output_seen (g.W.Sink.taken c.args.output.now) (g.W.Faulted.faults c.args.output.now)) (output_seen (g.W.Sink.taken c.run_json.new.output) (g.W.Faulted.faults c.run_json.new.output)) in
     subst (λ (asked : LocalCommand). IsAnswered (meaning_of asked) told c.run_json.result) (sym c.in-Json.is)

@@ -1,5 +1,5 @@
 use Rattle.std.proofs.Common.{option_copied, refl}
-use Rattle.command_core.specs.Seen.{NetSeen, OutputSeen, Told, net_seen, output_seen, told_over}
+use Rattle.command_core.specs.Seen.{NetSeen, OutputSeen, Run, net_seen, output_seen, run_over_net}
 use Rattle.link_commands.specs.Linked.{HasLinked, LinkSeen, link_seen}
 use Rattle.link_commands.proofs.FollowFacts.{finished, look_ends, unlinked_ends}
 use Rattle.link_commands.proofs.LinkedFacts.{linked}
@@ -11,7 +11,7 @@ returns-in-Err-clause-answered g c =
     let old = c.args.net.now in
     let net : NetSeen = net_seen (g.N.Net.asked old) (g.N.Net.written old) (g.N.Net.listener_links old) (g.N.Net.next_input old) (g.N.Faulted.faults old) in
     λ files input.
-    let told : Told = told_over files input input net net (output_seen (g.W.Sink.taken c.args.output.now) (g.W.Faulted.faults c.args.output.now))
+    let told : Run = run_over_net files input input net net (output_seen (g.W.Sink.taken c.args.output.now) (g.W.Faulted.faults c.args.output.now))
     (output_seen (g.W.Sink.taken c.write_error.new.output) (g.W.Faulted.faults c.write_error.new.output)) in
     look_ends c.args.place.now c.args.rounds (option_copied c.args.query) (option_copied c.args.meta) c.args.target told c.write_error.result c.in-Err.fault refl c.in-Err.ensures.refused
     c.write_error.ensures
@@ -36,10 +36,10 @@ returns-in-Ok-connect-clause-answered g c =
     c.in-Ok-connect.ensures.input c.connect.ensures.written_stays c.close.ensures.written_grows c.connect.ensures.links_stay c.close.ensures.links_stay
     c.in-Ok-connect.ensures.count c.close.ensures.count in
     λ files input.
-    let told : Told = told_over files input input before after (output_seen (g.W.Sink.taken c.args.output.now) (g.W.Faulted.faults c.args.output.now))
-    (output_seen (g.W.Sink.taken c.ended.new.output) (g.W.Faulted.faults c.ended.new.output)) in
-    finished host c.args.rounds query meta c.args.target told mid c.ended.result c.in-Ok.mirror c.follow_rounds-end.new.mirror link c.follow_rounds-end.result
-    (record { asks = c.in-Ok.ensures.asks; unread = record { left = refl; faults = refl }; linked = made }) c.follow_rounds-end.ensures.followed c.follow_rounds-end.ensures.ends c.ended.ensures
+    let told : Run = run_over_net files input input before after (output_seen (g.W.Sink.taken c.args.output.now) (g.W.Faulted.faults c.args.output.now))
+    (output_seen (g.W.Sink.taken c.finish.new.output) (g.W.Faulted.faults c.finish.new.output)) in
+    finished host c.args.rounds query meta c.args.target told mid c.finish.result c.in-Ok.mirror c.follow_rounds-end.new.mirror link c.follow_rounds-end.result
+    (record { asks = c.in-Ok.ensures.asks; unread = record { left = refl; faults = refl }; linked = made }) c.follow_rounds-end.ensures.followed c.follow_rounds-end.ensures.ends c.finish.ensures
 
 -- no connection was made
 pub returns-clause-answered : goal.returns-clause-answered
@@ -47,7 +47,7 @@ returns-clause-answered g c =
     let old = c.args.net.now in
     let new = c.connect.new.self in
     λ files input.
-    let told : Told = told_over files input input (net_seen (g.N.Net.asked old) (g.N.Net.written old) (g.N.Net.listener_links old) (g.N.Net.next_input old) (g.N.Faulted.faults old))
+    let told : Run = run_over_net files input input (net_seen (g.N.Net.asked old) (g.N.Net.written old) (g.N.Net.listener_links old) (g.N.Net.next_input old) (g.N.Faulted.faults old))
     (net_seen (g.N.Net.asked new) (g.N.Net.written new) (g.N.Net.listener_links new) (g.N.Net.next_input new) (g.N.Faulted.faults new))
     (output_seen (g.W.Sink.taken c.args.output.now) (g.W.Faulted.faults c.args.output.now))
     (output_seen (g.W.Sink.taken c.write_error-in-Err-connect.new.output) (g.W.Faulted.faults c.write_error-in-Err-connect.new.output)) in

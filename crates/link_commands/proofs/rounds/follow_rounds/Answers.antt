@@ -19,79 +19,79 @@ returns-in-Err-clause-ends g c =
     opening_ends c.args.host.now c.args.mirror.now c.args.rounds link (output_seen (g.W.Sink.taken c.args.output.now) (g.W.Faulted.faults c.args.output.now)) c.in-Err.error
     c.in-Err.ensures.stops (subst (λ (n : ℕ). CountsFault n (g.K.Faulted.faults c.open.new.link) c.in-Err.error) c.requires.fresh c.in-Err.ensures.count)
 
-pub returns-in-Err-tell_round-clause-ends : goal.returns-in-Err-tell_round-clause-ends
-returns-in-Err-tell_round-clause-ends g c =
-    let link : LinkSeen = link_seen (g.K.Sink.taken c.args.link.now) (g.K.Source.left c.args.link.now) (g.K.Sink.taken c.tell_round.new.link) (g.K.Faulted.faults c.tell_round.new.link) in
+pub returns-in-Err-run_round-clause-ends : goal.returns-in-Err-run_round-clause-ends
+returns-in-Err-run_round-clause-ends g c =
+    let link : LinkSeen = link_seen (g.K.Sink.taken c.args.link.now) (g.K.Source.left c.args.link.now) (g.K.Sink.taken c.run_round.new.link) (g.K.Faulted.faults c.run_round.new.link) in
     let before : OutputSeen = output_seen (g.W.Sink.taken c.args.output.now) (g.W.Faulted.faults c.args.output.now) in
-    let after : OutputSeen = output_seen (g.W.Sink.taken c.tell_round.new.output) (g.W.Faulted.faults c.tell_round.new.output) in
+    let after : OutputSeen = output_seen (g.W.Sink.taken c.run_round.new.output) (g.W.Faulted.faults c.run_round.new.output) in
     let p : Point = place (g.K.Sink.taken c.args.link.now) (g.K.Source.left c.args.link.now) nothing_read in
     let mid : Point = place (g.K.Sink.taken c.open.new.link) (g.K.Source.left c.open.new.link) c.in-Ok.follower.ahead in
-    round_ends c.args.host.now c.in-Ok.follower.known c.args.mirror.now c.tell_round.new.mirror c.args.rounds [] (Asking c.in-Ok.follower.known []) mid link before before after
-    c.in-Err-tell_round.stop (opened_walks c.args.host.now c.args.mirror.now c.args.rounds p mid c.in-Ok.follower.known c.in-Ok.ensures.opened.0) (none_written before)
-    (round_on c.in-Ok.follower.host c.args.host.now c.in-Ok.follower.known c.args.mirror.now c.tell_round.new.mirror c.args.rounds [] (Asking c.in-Ok.follower.known []) mid link.taken before after
-    c.in-Err-tell_round.stop c.in-Ok.ensures.opened.1 (c.in-Err-tell_round.ensures.ends c.args.mirror.now c.args.rounds [] refl))
-    (subst (λ (n : ℕ). CountsStop n (g.K.Faulted.faults c.tell_round.new.link) c.in-Err-tell_round.stop) (c.in-Ok.ensures.count ∙ c.requires.fresh) c.in-Err-tell_round.ensures.count)
+    round_ends c.args.host.now c.in-Ok.follower.known c.args.mirror.now c.run_round.new.mirror c.args.rounds [] (Asking c.in-Ok.follower.known []) mid link before before after
+    c.in-Err-run_round.stop (opened_walks c.args.host.now c.args.mirror.now c.args.rounds p mid c.in-Ok.follower.known c.in-Ok.ensures.opened.0) (none_written before)
+    (round_on c.in-Ok.follower.host c.args.host.now c.in-Ok.follower.known c.args.mirror.now c.run_round.new.mirror c.args.rounds [] (Asking c.in-Ok.follower.known []) mid link.taken before after
+    c.in-Err-run_round.stop c.in-Ok.ensures.opened.1 (c.in-Err-run_round.ensures.ends c.args.mirror.now c.args.rounds [] refl))
+    (subst (λ (n : ℕ). CountsStop n (g.K.Faulted.faults c.run_round.new.link) c.in-Err-run_round.stop) (c.in-Ok.ensures.count ∙ c.requires.fresh) c.in-Err-run_round.ensures.count)
 
 pub loop-round-init : goal.loop-round-init
 loop-round-init g c =
-    let w = c.in-Ok-tell_round.ensures.tells c.args.mirror.now c.args.rounds [] refl in
+    let w = c.in-Ok-run_round.ensures.tells c.args.mirror.now c.args.rounds [] refl in
     let before : OutputSeen = output_seen (g.W.Sink.taken c.args.output.now) (g.W.Faulted.faults c.args.output.now) in
-    let after : OutputSeen = output_seen (g.W.Sink.taken c.tell_round.new.output) (g.W.Faulted.faults c.tell_round.new.output) in
+    let after : OutputSeen = output_seen (g.W.Sink.taken c.run_round.new.output) (g.W.Faulted.faults c.run_round.new.output) in
     record {
       listings = w.listing ∷ [];
       count = refl;
       within = c.requires.some;
       holds = w.holds;
       walks =
-          first_round c.args.host.now c.in-Ok.follower.host c.args.mirror.now c.args.rounds c.in-Ok.follower.known c.tell_round.new.follower.known w.listing
+          first_round c.args.host.now c.in-Ok.follower.host c.args.mirror.now c.args.rounds c.in-Ok.follower.known c.run_round.new.follower.known w.listing
           (place (g.K.Sink.taken c.args.link.now) (g.K.Source.left c.args.link.now) nothing_read) (place (g.K.Sink.taken c.open.new.link) (g.K.Source.left c.open.new.link) c.in-Ok.follower.ahead)
-          (place (g.K.Sink.taken c.tell_round.new.link) (g.K.Source.left c.tell_round.new.link) c.tell_round.new.follower.ahead) c.in-Ok.ensures.opened.0
-          c.in-Ok.ensures.opened.1 c.tell_round.ensures.stays.1 w.walks;
-      host = c.tell_round.ensures.stays.0 ∙ c.in-Ok.ensures.opened.1;
-      calls = omega (arith, c.tell_round.ensures.calls, c.in-Ok.ensures.opened.2);
-      query = c.tell_round.ensures.query;
-      faultless = c.in-Ok-tell_round.ensures.count ∙ c.in-Ok.ensures.count;
+          (place (g.K.Sink.taken c.run_round.new.link) (g.K.Source.left c.run_round.new.link) c.run_round.new.follower.ahead) c.in-Ok.ensures.opened.0
+          c.in-Ok.ensures.opened.1 c.run_round.ensures.stays.1 w.walks;
+      host = c.run_round.ensures.stays.0 ∙ c.in-Ok.ensures.opened.1;
+      calls = omega (arith, c.run_round.ensures.calls, c.in-Ok.ensures.opened.2);
+      query = c.run_round.ensures.query;
+      faultless = c.in-Ok-run_round.ensures.count ∙ c.in-Ok.ensures.count;
       told = line_written c.args.mirror.now [] w.listing w.done before before after w.told (none_written before) w.line;
     }
 
-pub returns-in-Err-tell_next-clause-ends : goal.returns-in-Err-tell_next-clause-ends
-returns-in-Err-tell_next-clause-ends g c =
+pub returns-in-Err-run_next_round-clause-ends : goal.returns-in-Err-run_next_round-clause-ends
+returns-in-Err-run_next_round-clause-ends g c =
     let inv = c.loop-round.invariant in
     let less : length c.loop-round.invariant.listings < c.args.rounds = omega (arith, c.loop-round.invariant.count, c.loop-round-test.true) in
-    let link : LinkSeen = link_seen (g.K.Sink.taken c.args.link.now) (g.K.Source.left c.args.link.now) (g.K.Sink.taken c.tell_next.new.link) (g.K.Faulted.faults c.tell_next.new.link) in
+    let link : LinkSeen = link_seen (g.K.Sink.taken c.args.link.now) (g.K.Source.left c.args.link.now) (g.K.Sink.taken c.run_next_round.new.link) (g.K.Faulted.faults c.run_next_round.new.link) in
     let start : OutputSeen = output_seen (g.W.Sink.taken c.args.output.now) (g.W.Faulted.faults c.args.output.now) in
     let before : OutputSeen = output_seen (g.W.Sink.taken c.loop-round.output) (g.W.Faulted.faults c.loop-round.output) in
-    let after : OutputSeen = output_seen (g.W.Sink.taken c.tell_next.new.output) (g.W.Faulted.faults c.tell_next.new.output) in
+    let after : OutputSeen = output_seen (g.W.Sink.taken c.run_next_round.new.output) (g.W.Faulted.faults c.run_next_round.new.output) in
     let mid : Point = place (g.K.Sink.taken c.loop-round.link) (g.K.Source.left c.loop-round.link) c.loop-round.follower.ahead in
-    round_ends c.args.host.now c.loop-round.follower.known c.args.mirror.now c.tell_next.new.mirror c.args.rounds inv.listings (Holding c.loop-round.follower.known inv.listings) mid link
-    start before after c.in-Err-tell_next.stop inv.walks inv.told
-    (round_on c.loop-round.follower.host c.args.host.now c.loop-round.follower.known c.args.mirror.now c.tell_next.new.mirror c.args.rounds inv.listings
-    (Holding c.loop-round.follower.known inv.listings) mid link.taken before after c.in-Err-tell_next.stop inv.host
-    (c.in-Err-tell_next.ensures.ends c.args.mirror.now c.args.rounds inv.listings inv.holds (not_last (length inv.listings) c.args.rounds less)))
-    (subst (λ (n : ℕ). CountsStop n (g.K.Faulted.faults c.tell_next.new.link) c.in-Err-tell_next.stop) (inv.faultless ∙ c.requires.fresh) c.in-Err-tell_next.ensures.count)
+    round_ends c.args.host.now c.loop-round.follower.known c.args.mirror.now c.run_next_round.new.mirror c.args.rounds inv.listings (Holding c.loop-round.follower.known inv.listings) mid link
+    start before after c.in-Err-run_next_round.stop inv.walks inv.told
+    (round_on c.loop-round.follower.host c.args.host.now c.loop-round.follower.known c.args.mirror.now c.run_next_round.new.mirror c.args.rounds inv.listings
+    (Holding c.loop-round.follower.known inv.listings) mid link.taken before after c.in-Err-run_next_round.stop inv.host
+    (c.in-Err-run_next_round.ensures.ends c.args.mirror.now c.args.rounds inv.listings inv.holds (not_last (length inv.listings) c.args.rounds less)))
+    (subst (λ (n : ℕ). CountsStop n (g.K.Faulted.faults c.run_next_round.new.link) c.in-Err-run_next_round.stop) (inv.faultless ∙ c.requires.fresh) c.in-Err-run_next_round.ensures.count)
 
 pub loop-round-preserved : goal.loop-round-preserved
 loop-round-preserved g c =
     let inv = c.loop-round.invariant in
     let less : length c.loop-round.invariant.listings < c.args.rounds = omega (arith, c.loop-round.invariant.count, c.loop-round-test.true) in
-    let w = c.in-Ok-tell_next.ensures.tells c.args.mirror.now c.args.rounds inv.listings inv.holds (not_last (length inv.listings) c.args.rounds less) in
+    let w = c.in-Ok-run_next_round.ensures.tells c.args.mirror.now c.args.rounds inv.listings inv.holds (not_last (length inv.listings) c.args.rounds less) in
     let start : OutputSeen = output_seen (g.W.Sink.taken c.args.output.now) (g.W.Faulted.faults c.args.output.now) in
     let before : OutputSeen = output_seen (g.W.Sink.taken c.loop-round.output) (g.W.Faulted.faults c.loop-round.output) in
-    let after : OutputSeen = output_seen (g.W.Sink.taken c.tell_next.new.output) (g.W.Faulted.faults c.tell_next.new.output) in
+    let after : OutputSeen = output_seen (g.W.Sink.taken c.run_next_round.new.output) (g.W.Faulted.faults c.run_next_round.new.output) in
     record {
       listings = inv.listings ++ w.listing ∷ [];
       count = omega (arith, length-append inv.listings (w.listing ∷ []), inv.count);
       within = omega (arith, inv.count, less);
       holds = w.holds;
       walks =
-          later_round c.args.host.now c.loop-round.follower.host c.args.mirror.now c.args.rounds c.loop-round.follower.known c.tell_next.new.follower.known inv.listings w.listing
+          later_round c.args.host.now c.loop-round.follower.host c.args.mirror.now c.args.rounds c.loop-round.follower.known c.run_next_round.new.follower.known inv.listings w.listing
           (place (g.K.Sink.taken c.args.link.now) (g.K.Source.left c.args.link.now) nothing_read) (place (g.K.Sink.taken c.loop-round.link) (g.K.Source.left c.loop-round.link) c.loop-round.follower.ahead)
-          (place (g.K.Sink.taken c.tell_next.new.link) (g.K.Source.left c.tell_next.new.link) c.tell_next.new.follower.ahead) inv.walks inv.host
-          c.tell_next.ensures.stays.1 w.walks;
-      host = c.tell_next.ensures.stays.0 ∙ inv.host;
-      calls = omega (arith, c.tell_next.ensures.calls, inv.calls);
-      query = c.tell_next.ensures.query ∙ inv.query;
-      faultless = c.in-Ok-tell_next.ensures.count ∙ inv.faultless;
+          (place (g.K.Sink.taken c.run_next_round.new.link) (g.K.Source.left c.run_next_round.new.link) c.run_next_round.new.follower.ahead) inv.walks inv.host
+          c.run_next_round.ensures.stays.1 w.walks;
+      host = c.run_next_round.ensures.stays.0 ∙ inv.host;
+      calls = omega (arith, c.run_next_round.ensures.calls, inv.calls);
+      query = c.run_next_round.ensures.query ∙ inv.query;
+      faultless = c.in-Ok-run_next_round.ensures.count ∙ inv.faultless;
       told = line_written c.args.mirror.now inv.listings w.listing w.done start before after w.told inv.told w.line;
     }
 

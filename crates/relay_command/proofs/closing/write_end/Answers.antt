@@ -2,7 +2,7 @@ use Rattle.std.proofs.Common.{List, ℕ, sym, subst}
 use Rattle.std.specs.Io.KnownBytes.{Appends}
 use Rattle.outside_net.specs.Told.{AppendsPrefix}
 use Rattle.command_core.specs.Seen.{OutputSeen, output_seen}
-use Rattle.relay_command.specs.Runs.{TellsRuling}
+use Rattle.relay_command.specs.Runs.{WritesLastError}
 use Rattle.relay_command.proofs.Telling.{TellsLines, cut_in, ruled_behind}
 use Rattle.relay_command.proofs.closing.write_end.Goals as goal
 
@@ -31,4 +31,4 @@ returns g c =
     let old : OutputSeen = output_seen (g.W.Sink.taken c.args.output.now) (g.W.Faulted.faults c.args.output.now) in
     let after : OutputSeen = output_seen (g.W.Sink.taken c.write_verdict-in-Err.new.output) (g.W.Faulted.faults c.write_verdict-in-Err.new.output) in
     subst (TellsLines c.args.fault old after c.write_verdict-in-Err.result) (sym c.in-Err.is)
-    (subst (λ f. TellsRuling f old after c.write_verdict-in-Err.result) c.with_memory.ensures c.write_verdict-in-Err.ensures)
+    (subst (λ f. WritesLastError f old after c.write_verdict-in-Err.result) c.with_memory.ensures c.write_verdict-in-Err.ensures)

@@ -2,7 +2,7 @@ use Rattle.std.proofs.Common.{List, ℕ, sym, subst}
 use Rattle.std.specs.Io.KnownBytes.{Appends}
 use Rattle.outside_net.specs.Told.{AppendsPrefix}
 use Rattle.command_core.specs.Seen.{OutputSeen, output_seen}
-use Rattle.command_core.specs.Answers.{Tells}
+use Rattle.command_core.specs.Answers.{Writes}
 use Rattle.share_crew.specs.Verdicts.{verdict_line, verdict_status}
 use Rattle.share_crew.proofs.Telling.{told_behind}
 use Rattle.serve_command.proofs.Telling.{TellsLine, told_cut}
@@ -34,4 +34,4 @@ returns g c =
     let old : OutputSeen = output_seen (g.W.Sink.taken c.args.output.now) (g.W.Faulted.faults c.args.output.now) in
     let after : OutputSeen = output_seen (g.W.Sink.taken c.write_verdict-in-Err.new.output) (g.W.Faulted.faults c.write_verdict-in-Err.new.output) in
     subst (TellsLine c.args.verdict old after c.write_verdict-in-Err.result) (sym c.in-Err.is)
-    (subst (λ v. Tells (verdict_status v) (verdict_line v) old after c.write_verdict-in-Err.result) c.with_memory.ensures c.write_verdict-in-Err.ensures)
+    (subst (λ v. Writes (verdict_status v) (verdict_line v) old after c.write_verdict-in-Err.result) c.with_memory.ensures c.write_verdict-in-Err.ensures)

@@ -1,7 +1,7 @@
 use Rattle.std.proofs.Common.{◌≡◌, None, refl, sym, subst, ◌∙◌}
 use Rattle.command_core.specs.Seen.{InputSeen, NetSeen, OutputSeen, input_seen, net_seen, output_seen}
 use Rattle.serve_command.specs.Faults.{StopsServing}
-use Rattle.serve_command.specs.Runs.{TellsStop, stopped, unbegun, unopened}
+use Rattle.serve_command.specs.Runs.{WritesStop, stopped, unbegun, unopened}
 use Rattle.serve_command.proofs.Inputs.{unread_alone, unread_cause}
 use Rattle.serve_command.proofs.Returning.{asked_still, faultless_still}
 use Rattle.serve_command.proofs.command.serve.Goals as goal
@@ -40,4 +40,4 @@ returns-in-Err-clause-ends g c =
     let old : OutputSeen = output_seen (g.W.Sink.taken c.args.output.now) (g.W.Faulted.faults c.args.output.now) in
     let new : OutputSeen = output_seen (g.W.Sink.taken c.write_error.new.output) (g.W.Faulted.faults c.write_error.new.output) in
     unopened c.in-Err.stop c.in-Err.ensures.failed (record { left = refl; faults = refl }) refl
-    (subst (TellsStop c.in-Err.stop old new) (sym c.no_share.ensures.status) c.write_error.ensures.told) c.no_share.ensures.none
+    (subst (WritesStop c.in-Err.stop old new) (sym c.no_share.ensures.status) c.write_error.ensures.told) c.no_share.ensures.none

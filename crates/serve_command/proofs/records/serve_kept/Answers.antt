@@ -4,7 +4,7 @@ use Rattle.edit_file.specs.Files.{HasBatches, disk_of, is_broken, place_of}
 use Rattle.command_core.specs.Seen.{NetSeen, OutputSeen, net_seen, output_seen}
 use Rattle.serve_command.specs.Files.{HasKept}
 use Rattle.serve_command.specs.KeptFiles.{IsKeptIn}
-use Rattle.serve_command.specs.Outcomes.{left_of}
+use Rattle.serve_command.specs.Outcomes.{outcome_of}
 use Rattle.serve_command.proofs.Returning.{ends_so}
 use Rattle.serve_command.proofs.records.serve_kept.Goals as goal
 
@@ -21,7 +21,7 @@ returns-clause-ends g c = λ start at.
     let keeps' : List (List Edit) → Type 0 = λ bs. HasBatches g.D.Disk file' bs × (place_of g.D.Disk file' ≡ g.P.Placed.place) in
     ends_so c.args.serving.now c.args.share.history
     (HasKept c.args.serving.now.editors keeps keeps' (is_broken g.D.Disk file') faults (g.D.Faulted.faults (disk_of g.D.Disk file')) c.args.share.history)
-    (IsKeptIn g.D.Disk g.P.Placed.place faults file') start now old new (left_of c.serve_share-outcome.result.0)
+    (IsKeptIn g.D.Disk g.P.Placed.place faults file') start now old new (outcome_of c.serve_share-outcome.result.0)
     (λ h lost k. record {
       is_broken_so = k.is_lost;
       counts = k.counts;

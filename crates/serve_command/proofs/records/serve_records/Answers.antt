@@ -12,7 +12,7 @@ use Rattle.command_core.specs.Seen.{FilesSeen, NetSeen, OutputSeen, files_seen, 
 use Rattle.serve_command.specs.Faults.{StopsServing}
 use Rattle.serve_command.specs.Files.{AreKept, IsOpening, LeavesBut}
 use Rattle.serve_command.specs.KeptFiles.{IsKeptIn}
-use Rattle.serve_command.specs.Outcomes.{left_of}
+use Rattle.serve_command.specs.Outcomes.{outcome_of}
 use Rattle.serve_command.specs.Runs.{stopped, unbegun, unkept}
 use Rattle.serve_command.proofs.Beginning.{opened_made, opening_made}
 use Rattle.serve_command.proofs.Inputs.{open_cause}
@@ -36,8 +36,8 @@ returns-in-Ok-clause-ends g c = λ before after start read at.
     let unfiled : serving.file ≡ None = c.in-None.is in
     let opening_is : IsOpening serving.file files.contents c.args.first history =
     subst (λ f. IsOpening f files.contents c.args.first history) (sym unfiled) (ap (λ (s : Shared). s.history) c.in-Ok.ensures.opened, c.in-Ok.ensures.fits) in
-    run_ends serving history c.args.first before after files files start now old new (left_of c.serve_share.result.0) read opening_is
-    (ends_so serving history _ (AreKept serving.file files files) start now old new (left_of c.serve_share.result.0)
+    run_ends serving history c.args.first before after files files start now old new (outcome_of c.serve_share.result.0) read opening_is
+    (ends_so serving history _ (AreKept serving.file files files) start now old new (outcome_of c.serve_share.result.0)
     (λ h lost k. subst (λ f. AreKept f files files h lost) (sym unfiled) (refl, sym k.is_lost)) (c.serve_share.ensures.ends start at))
 
 pub returns-in-Err-clause-ends : goal.returns-in-Err-clause-ends
@@ -79,8 +79,8 @@ returns-in-Ok-open_library-clause-ends g c = λ before after start read at.
     let kept = IsKeptIn g.F.D.Disk place (g.F.D.Faulted.faults (disk_of g.F.D.Disk file)) file' in
     let opening_is : IsOpening serving.file files.contents c.args.first share.history =
     subst (λ o. IsOpening o files.contents c.args.first share.history) (sym filed) (opened.before, opened.stood, ap (λ (s : Shared). s.history) opened.share_is, opened.few) in
-    run_ends serving share.history c.args.first before after files files' start now old new (left_of c.serve_kept-outcome.result.0) read opening_is
-    (ends_so serving share.history kept (AreKept serving.file files files') start now old new (left_of c.serve_kept-outcome.result.0)
+    run_ends serving share.history c.args.first before after files files' start now old new (outcome_of c.serve_kept-outcome.result.0) read opening_is
+    (ends_so serving share.history kept (AreKept serving.file files files') start now old new (outcome_of c.serve_kept-outcome.result.0)
     (λ h lost k. subst (λ o. AreKept o files files' h lost) (sym filed) (record {
       asked = subst (λ a. Grows (g.F.Files.asked f0) a (path ∷ [])) (sym c.close_file.ensures.asked_stays) has.asks;
       counts = counts_back lost (g.F.Faulted.faults f0) (g.F.Faulted.faults f2) (g.F.D.Faulted.faults (disk_of g.F.D.Disk file)) (g.F.D.Faulted.faults (disk_of g.F.D.Disk file')) opened.faultless k.counts

@@ -1,6 +1,6 @@
 use Rattle.std.proofs.Common.{◌≤◌, ◌<◌, ◌*◌, [], Some, inr, refl, ap, ◌∙◌, arith}
 use Rattle.share_history.specs.Numbers.{most_edits}
-use Rattle.command_core.specs.Seen.{Told, output_seen, share_with, told_beside}
+use Rattle.command_core.specs.Seen.{Run, output_seen, share_with, run_over_streams}
 use Rattle.command_core.proofs.Appending.{none_written}
 use Rattle.command_core.proofs.Ended.{by_memory, by_output, by_refusal}
 use Rattle.command_core.specs.declared.fault.Fault.TheVariants.{Own}
@@ -16,7 +16,7 @@ returns-then-batches-size-gt-MAX_EDITS-clause-answered g c =
     let a = c.args in
     let many : most_edits < a.batches * a.size = omega (arith, c.if-batches-size-gt-MAX_EDITS.true) in
     λ around input.
-    let told : Told = told_beside around input input
+    let told : Run = run_over_streams around input input
     (output_seen (g.W.Sink.taken a.output.now) (g.W.Faulted.faults a.output.now)) (output_seen (g.W.Sink.taken c.write_error.new.output) (g.W.Faulted.faults c.write_error.new.output)) in
     by_refusal (rehearse_meaning a.number a.batches a.size a.keep) (rehearse_sense a.number a.batches a.size a.keep) told c.write_error.result (Own TooMany)
     (many, record { left = refl; faults = refl }) c.write_error.ensures
@@ -26,7 +26,7 @@ returns-in-Ok-clause-answered g c =
     let a = c.args in
     let few : a.batches * a.size ≤ most_edits = omega (arith, c.if-batches-size-gt-MAX_EDITS.false) in
     λ around input.
-    let told : Told = told_beside around input input
+    let told : Run = run_over_streams around input input
     (output_seen (g.W.Sink.taken a.output.now) (g.W.Faulted.faults a.output.now)) (output_seen (g.W.Sink.taken c.write_output.new.output) (g.W.Faulted.faults c.write_output.new.output)) in
     by_output (rehearse_meaning a.number a.batches a.size a.keep) (rehearse_sense a.number a.batches a.size a.keep) told c.write_output.result (Some c.in-Ok.rehearsed.history) c.as_slice.result.now (record {
       unread = record { left = refl; faults = refl };
@@ -40,7 +40,7 @@ returns-in-Err-clause-answered g c =
     let a = c.args in
     let few : a.batches * a.size ≤ most_edits = omega (arith, c.if-batches-size-gt-MAX_EDITS.false) in
     λ around input.
-    let told : Told = told_beside around input input
+    let told : Run = run_over_streams around input input
     (output_seen (g.W.Sink.taken a.output.now) (g.W.Faulted.faults a.output.now))
     (output_seen (g.W.Sink.taken c.out_of_memory.new.output) (g.W.Faulted.faults c.out_of_memory.new.output)) in
     by_memory (rehearse_meaning a.number a.batches a.size a.keep) (rehearse_sense a.number a.batches a.size a.keep).sensible told told.output_before c.out_of_memory.result []

@@ -1,5 +1,5 @@
 use Rattle.std.proofs.Common.{[], None, inl, refl, ap, subst}
-use Rattle.command_core.specs.Seen.{InputSeen, OutputSeen, Told, input_seen, output_seen, told_beside}
+use Rattle.command_core.specs.Seen.{InputSeen, OutputSeen, Run, input_seen, output_seen, run_over_streams}
 use Rattle.command_core.proofs.Appending.{none_written}
 use Rattle.command_core.proofs.Ended.{by_fault, by_memory}
 use Rattle.share_replies.specs.Answers.{Shared}
@@ -14,7 +14,7 @@ pub returns-in-Err : goal.returns-in-Err
 returns-in-Err g c = λ around.
     let keep = c.args.keep in
     let name = c.args.name.now in
-    let told : Told = told_beside around
+    let told : Run = run_over_streams around
     (input_seen (g.I.Source.left c.args.input.now) (g.I.Faulted.faults c.args.input.now)) (input_seen (g.I.Source.left c.script_of.new.input) (g.I.Faulted.faults c.script_of.new.input))
     (output_seen (g.W.Sink.taken c.args.output.now) (g.W.Faulted.faults c.args.output.now)) (output_seen (g.W.Sink.taken c.write_error.new.output) (g.W.Faulted.faults c.write_error.new.output)) in
     by_fault (replay_meaning keep name) (replay_sense keep name) told told.output_before c.write_error.result [] c.in-Err.fault
@@ -35,7 +35,7 @@ pub returns : goal.returns
 returns g c = λ around.
     let keep = c.args.keep in
     let name = c.args.name.now in
-    let told : Told = told_beside around
+    let told : Run = run_over_streams around
     (input_seen (g.I.Source.left c.args.input.now) (g.I.Faulted.faults c.args.input.now)) (input_seen (g.I.Source.left c.script_of.new.input) (g.I.Faulted.faults c.script_of.new.input))
     (output_seen (g.W.Sink.taken c.args.output.now) (g.W.Faulted.faults c.args.output.now)) (output_seen (g.W.Sink.taken c.out_of_memory.new.output) (g.W.Faulted.faults c.out_of_memory.new.output)) in
     by_memory (replay_meaning keep name) (replay_sense keep name) told told.output_before c.out_of_memory.result [] None

@@ -2,7 +2,7 @@ use Rattle.std.proofs.Common.{rules, ◌≡◌, ◌<◌, ◌≤◌, [], ◌∷�
 use Rattle.std.proofs.lemmas.List.{nil_from_length}
 use Rattle.share_lock.specs.Passes.{lock_id, known, IsReady}
 use Rattle.share_lock.specs.Known.{fresh}
-use Rattle.share_crew.specs.Crews.{HasHired}
+use Rattle.share_crew.specs.Crews.{AddsWorkers}
 use Rattle.share_crew.proofs.Staffing.{none_hired, hire_more, is_hired}
 use Rattle.share_crew.proofs.hiring.add_workers.Goals as goal
 
@@ -48,7 +48,7 @@ pub returns-clause-hired : goal.returns-clause-hired
 returns-clause-hired g c =
     let none = nil_from_length _ (sym c.loop-listener.listener-iterator.rest.ok.0 ∙ c.in-None.ensures.steps.0) in
     let all = sym (append-nil c.loop-listener.yielded) ∙ (ap (λ l. c.loop-listener.yielded ++ l) (sym none) ∙ c.loop-listener.invariant.items) in
-    subst (λ l. HasHired (lock_id c.args.lock.now) (known c.args.first.now) c.args.role l c.args.crew.now.items c.loop-listener.crew.items) all c.loop-listener.invariant.hired
+    subst (λ l. AddsWorkers (lock_id c.args.lock.now) (known c.args.first.now) c.args.role l c.args.crew.now.items c.loop-listener.crew.items) all c.loop-listener.invariant.hired
 
 pub returns-clause-len : goal.returns-clause-len
 returns-clause-len g c =

@@ -1,5 +1,5 @@
 use Rattle.std.proofs.Common.{None, refl, subst}
-use Rattle.command_core.specs.Seen.{Told, OutputSeen, input_seen, output_seen, told_beside}
+use Rattle.command_core.specs.Seen.{Run, OutputSeen, input_seen, output_seen, run_over_streams}
 use Rattle.command_core.proofs.Ended.{by_done, by_cut, by_fault}
 use Rattle.tag_commands.specs.Show.{show_meaning}
 use Rattle.tag_commands.specs.Showing.{ShowStops}
@@ -12,7 +12,7 @@ pub returns-in-Ok : goal.returns-in-Ok
 returns-in-Ok g c =
     let shown = c.in-Ok.ensures.shown in
     λ around.
-    let told : Told = told_beside around
+    let told : Run = run_over_streams around
     (input_seen (g.I.Source.left c.args.input.now) (g.I.Faulted.faults c.args.input.now)) (input_seen (g.I.Source.left c.write_lines.new.input) (g.I.Faulted.faults c.write_lines.new.input))
     (output_seen (g.W.Sink.taken c.args.output.now) (g.W.Faulted.faults c.args.output.now)) (output_seen (g.W.Sink.taken c.write_lines.new.output) (g.W.Faulted.faults c.write_lines.new.output)) in
     by_done show_meaning show_sense told (record { status = 0; history = None }) shown.0 c.write_lines.ensures.in_step shown.1 refl shown.2
@@ -20,7 +20,7 @@ returns-in-Ok g c =
 pub returns-in-Err-Input : goal.returns-in-Err-Input
 returns-in-Err-Input g c =
     λ around.
-    let told : Told = told_beside around
+    let told : Run = run_over_streams around
     (input_seen (g.I.Source.left c.args.input.now) (g.I.Faulted.faults c.args.input.now)) (input_seen (g.I.Source.left c.write_lines.new.input) (g.I.Faulted.faults c.write_lines.new.input))
     (output_seen (g.W.Sink.taken c.args.output.now) (g.W.Faulted.faults c.args.output.now)) (output_seen (g.W.Sink.taken c.write_error.new.output) (g.W.Faulted.faults c.write_error.new.output)) in
     let mid : OutputSeen = output_seen (g.W.Sink.taken c.write_lines.new.output) (g.W.Faulted.faults c.write_lines.new.output) in
@@ -32,7 +32,7 @@ returns-in-Err-Input g c =
 pub returns-in-Err-Output : goal.returns-in-Err-Output
 returns-in-Err-Output g c =
     λ around.
-    let told : Told = told_beside around
+    let told : Run = run_over_streams around
     (input_seen (g.I.Source.left c.args.input.now) (g.I.Faulted.faults c.args.input.now)) (input_seen (g.I.Source.left c.write_lines.new.input) (g.I.Faulted.faults c.write_lines.new.input))
     (output_seen (g.W.Sink.taken c.args.output.now) (g.W.Faulted.faults c.args.output.now)) (output_seen (g.W.Sink.taken c.write_lines.new.output) (g.W.Faulted.faults c.write_lines.new.output)) in
     let stops = subst (ShowStops told.before.input told.after.input told.output_before told.output_after) c.in-Err-Output.field-0-is c.in-Err-Output.ensures.stopped in

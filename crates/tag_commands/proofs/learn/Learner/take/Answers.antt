@@ -1,7 +1,7 @@
 use Rattle.std.proofs.Common.{rules, ◌≡◌, ◌≢◌, ◌++◌, [], ℕ, List, IfErr, IfOk, MatchOption, false, sym, subst, ap, ◌∙◌, append-nil}
 use Rattle.dmap_stream.specs.Walk.{broken}
 use Rattle.dmap_stream.specs.declared.refusal.StreamError.TheVariants as stream
-use Rattle.tag_commands.specs.TopTags.{walked}
+use Rattle.tag_commands.specs.TopTags.{walk_of_tags}
 use Rattle.tag_commands.specs.LearnCodes.{IsUnfinished, IsReply}
 use Rattle.tag_commands.specs.Learning.{is_whole, IsRefusal}
 use Rattle.tag_commands.proofs.Counted.{unbroken}
@@ -32,7 +32,7 @@ returns-in-Err c =
     record {
       took = λ fed h.
           let bytes : c.as_slice-in-Err.result.now ≡ fed ++ piece = c.as_slice-in-Err.ensures.value ∙ c.in_ok-extend_from_slice.ensures.items ∙ ap (λ l. l ++ piece) h.bytes in
-          let broke : (walked (fed ++ piece)).ending ≡ broken c.in-Err.field-0 = ap (λ l. (walked l).ending) (sym (append-nil (fed ++ piece))) ∙ c.in-Err.ensures.stopped fed h.counted known [] in
+          let broke : (walk_of_tags (fed ++ piece)).ending ≡ broken c.in-Err.field-0 = ap (λ l. (walk_of_tags l).ending) (sym (append-nil (fed ++ piece))) ∙ c.in-Err.ensures.stopped fed h.counted known [] in
           told_broken _ (fed ++ piece) c.table_in-in-Err.result (λ begun. begun.sound c.in-Err.field-0 broke)
           (subst (λ (l : List ℕ). IfOk c.table_in-in-Err.result (λ learned. MatchOption learned (IsUnfinished l) (λ rows. IsReply rows l))) bytes c.table_in-in-Err.ensures.told);
       stopped = λ fed h.

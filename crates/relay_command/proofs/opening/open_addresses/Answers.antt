@@ -3,10 +3,10 @@ use Rattle.outside_net.specs.Told.{BeginsEmpty, Grows, GrowsByTold}
 use Rattle.outside_net.specs.Places.{returned}
 use Rattle.share_crew.proofs.Nets.{grows_then}
 use Rattle.relay_command.specs.Faults.{net_fault}
-use Rattle.relay_command.specs.Places.{StopsOpening, unused}
+use Rattle.relay_command.specs.Places.{StopsOpening, unused_link}
 use Rattle.relay_command.specs.Terms.{places_of}
 use Rattle.relay_command.proofs.Nets.{stops_opening, unused_back}
-use Rattle.relay_command.proofs.opening.opened.Goals as goal
+use Rattle.relay_command.proofs.opening.open_addresses.Goals as goal
 
 -- the connection was closed
 pub returns-in-Err-listen-clause-failed : goal.returns-in-Err-listen-clause-failed

@@ -6,7 +6,7 @@ use Rattle.link_commands.specs.EditShare.{HasPushed, StopsPush, StopsSending}
 use Rattle.link_commands.specs.Linked.{LinkSeen, link_seen}
 use Rattle.link_commands.proofs.PushFacts.{pushing_fault, told_fault}
 use Rattle.link_commands.proofs.RoundFacts.{on_err}
-use Rattle.link_commands.proofs.edit.pushed.Goals as goal
+use Rattle.link_commands.proofs.edit.push_body.Goals as goal
 
 pub returns-in-Ok-clause-stops : goal.returns-in-Ok-clause-stops
 returns-in-Ok-clause-stops g c =
@@ -16,7 +16,7 @@ returns-in-Ok-clause-stops g c =
     let x = c.in-Ok.ensures.pushed in
     let pushed : HasPushed host body link c.in-Ok.made =
     record { answer = x.0; there = x.1; exchanged = x.2; written = x.3; is = x.4; faultless = c.in-Ok.ensures.count ∙ c.requires } in
-    on_err _ _ c.told.result c.told.ensures (λ fault is stop before after has. told_fault host stop before after body link c.in-Ok.made fault pushed is has)
+    on_err _ _ c.push_line.result c.push_line.ensures (λ fault is stop before after has. told_fault host stop before after body link c.in-Ok.made fault pushed is has)
 
 pub returns-in-Err-clause-stops : goal.returns-in-Err-clause-stops
 returns-in-Err-clause-stops g c = λ stop before after has.

@@ -13,20 +13,20 @@ use Rattle.share_lock.specs.Passes.{known, lock_id, passes_of}
 use Rattle.share_server.specs.Passes.{Pass}
 use Rattle.share_workers.specs.declared.worker.WorkerEnd.TheVariants.{AcceptFault}
 use Rattle.share_crew.specs.Crews.{HasJoined}
-use Rattle.share_crew.specs.Listeners.{AreNew, CountsShut, HaveLinks, IsNew}
-use Rattle.share_crew.specs.Stints.{IsHistoryOf, IsNumbered, passes_in, returns_of}
+use Rattle.share_crew.specs.Listeners.{AreNew, CountsListenerFaults, HaveLinks, IsNew}
+use Rattle.share_crew.specs.WorkerRuns.{IsHistoryOf, IsNumbered, passes_in, returns_of}
 use Rattle.share_crew.specs.Verdicts.{has_end, verdict_of}
 use Rattle.share_crew.proofs.Ending.{wholes_by}
 use Rattle.share_crew.proofs.Joining.{join_more}
 use Rattle.relay_share.specs.Ends.{HasRelayed, is_fault}
-use Rattle.relay_command.specs.Faults.{crew_fault, end_fault, worse}
-use Rattle.relay_command.specs.Runs.{TellsEnd, last_lines}
+use Rattle.relay_command.specs.Faults.{crew_fault, end_fault, worse_of}
+use Rattle.relay_command.specs.Runs.{WritesEnd, last_lines}
 use Rattle.relay_command.specs.Terms.{places_of, settings_of}
 use Rattle.relay_command.proofs.Nets.{counts_all, have_front, linked_behind, shut_behind}
 use Rattle.relay_command.proofs.Staff.{all_push, front_of, last_of_all}
 use Rattle.relay_command.proofs.Staying.{relay_stays}
 use Rattle.relay_command.proofs.Success.{crew_done, end_none}
-use Rattle.relay_command.proofs.running.relay_begun.Goals as goal
+use Rattle.relay_command.proofs.running.relay_locked.Goals as goal
 
 pub returns-clause-serves : goal.returns-clause-serves
 returns-clause-serves g c = λ start before first front begun opens new wrote.
@@ -60,9 +60,9 @@ returns-clause-serves g c = λ start before first front begun opens new wrote.
     let listeners_count : length crew + 1 ≡ relaying.workers + 1 =
     sym (length-append (map (λ w. w.listener) crew) (r.2 ∷ []) ∙ ap (λ n. n + 1) (length-map crew (λ w. w.listener))) ∙ ap length (sym e.listeners) ∙ c.requires.listeners in
     let crew_count : length crew ≡ relaying.workers = omega (arith, listeners_count) in
-    let stint_count : length (passes_in all.crew) ≡ length crew =
+    let worker_run_count : length (passes_in all.crew) ≡ length crew =
     length-map all.crew (λ s. s.pass) ∙ sym (length-map all.crew (λ s. s.role)) ∙ ap length all.roles_are ∙ length-map crew (λ w. w.role) in
-    let member_count : length members ≡ relaying.workers + 1 = length-append (passes_in all.crew) (k1 ∷ []) ∙ ap (λ n. n + 1) (stint_count ∙ crew_count) in
+    let member_count : length members ≡ relaying.workers + 1 = length-append (passes_in all.crew) (k1 ∷ []) ∙ ap (λ n. n + 1) (worker_run_count ∙ crew_count) in
     let passes : passes_of c.run_workers-lock.result.lock ≡ relaying.workers + 2 = ap (λ l. l.1) c.run_workers-lock.ensures.lock ∙ (ap (λ l. l.1) e.lock ∙ begun.passes) in
     let same_passes : passes_of r.0.lock ≡ passes_of c.run_workers-lock.result.lock = sym (ap (λ l. l.1) c.run_workers-lock.ensures.lock) in
     let begun_passes : passes_of c.args.begun.lock ≡ passes_of c.run_workers-lock.result.lock = sym (ap (λ l. l.1) e.lock) ∙ same_passes in
@@ -75,19 +75,19 @@ returns-clause-serves g c = λ start before first front begun opens new wrote.
     let one : IsHistoryOf (length members) history all.crew (k1 ∷ []) =
     c.share_of-share.ensures settings [] all.crew (k1 ∷ []) (λ k d less. absurd (omega (arith, less))) joined numbered (omega (arith, passes, member_count)) in
     let history_of : IsHistoryOf (relaying.workers + 1) history all.crew (k1 ∷ []) = subst (λ n. IsHistoryOf n history all.crew (k1 ∷ [])) member_count one in
-    let ends = map (λ stint. stint.end) all.crew in
+    let ends = map (λ worker_run. worker_run.end) all.crew in
     let old = c.args.net.now in
     let n1 = c.run_workers-lock.new.net in
     let n2 = c.close_listener.new.self in
     let n3 = c.close.new.self in
-    let fault = worse (crew_fault (verdict_of ends)) (end_fault after.report.end) in
-    let ruled : c.ruling.result ≡ fault = c.ruling.ensures ∙ ap (λ v. worse (crew_fault v) (end_fault after.report.end)) all.verdict_is in
+    let fault = worse_of (crew_fault (verdict_of ends)) (end_fault after.report.end) in
+    let ruled : c.worse_fault.result ≡ fault = c.worse_fault.ensures ∙ ap (λ v. worse_of (crew_fault v) (end_fault after.report.end)) all.verdict_is in
     let at_line : OutputSeen = output_seen (g.W.Sink.taken c.args.output.now) (g.W.Faulted.faults c.args.output.now) in
     let ending : OutputSeen = output_seen (g.W.Sink.taken c.finish.new.output) (g.W.Faulted.faults c.finish.new.output) in
-    let told : TellsEnd (last_lines (revision (batches history)) c.finish.result.links after.report.rounds.items fault) fault at_line ending c.finish.result.status =
-    subst (λ f. TellsEnd (last_lines (revision (batches history)) c.finish.result.links after.report.rounds.items f) f at_line ending c.finish.result.status) ruled
-    (subst (λ l. TellsEnd (last_lines (revision (batches history)) l after.report.rounds.items c.ruling.result) c.ruling.result at_line ending c.finish.result.status) (sym c.finish.ensures.left.links_are)
-    (subst (λ rs. TellsEnd (last_lines (revision (batches history)) c.run_workers-lock.result.links rs c.ruling.result) c.ruling.result at_line ending c.finish.result.status) c.as_slice.ensures.value
+    let told : WritesEnd (last_lines (revision (batches history)) c.finish.result.links after.report.rounds.items fault) fault at_line ending c.finish.result.status =
+    subst (λ f. WritesEnd (last_lines (revision (batches history)) c.finish.result.links after.report.rounds.items f) f at_line ending c.finish.result.status) ruled
+    (subst (λ l. WritesEnd (last_lines (revision (batches history)) l after.report.rounds.items c.worse_fault.result) c.worse_fault.result at_line ending c.finish.result.status) (sym c.finish.ensures.left.links_are)
+    (subst (λ rs. WritesEnd (last_lines (revision (batches history)) c.run_workers-lock.result.links rs c.worse_fault.result) c.worse_fault.result at_line ending c.finish.result.status) c.as_slice.ensures.value
     c.finish.ensures.told)) in
     record {
       history = history;
@@ -117,7 +117,7 @@ returns-clause-serves g c = λ start before first front begun opens new wrote.
           c.close.ensures.written_grows;
       counts =
           counts_all (has_end AcceptFault ends) (is_fault after.report.end) start.faults (g.N.Faulted.faults n1) (g.N.Faulted.faults n2) (g.N.Faulted.faults n3)
-          (g.N.L.Faulted.faults c.args.places.link) link.faults (subst (λ n. CountsShut n (g.N.Faulted.faults n1) ends) opens.faultless all.counts)
+          (g.N.L.Faulted.faults c.args.places.link) link.faults (subst (λ n. CountsListenerFaults n (g.N.Faulted.faults n1) ends) opens.faultless all.counts)
           (c.close_listener.ensures.count.faultless (w.4 ∙ last_listener.faultless)) opens.fresh w.2 c.close.ensures.count;
       at_line = at_line;
       line_written = wrote;

@@ -4,7 +4,7 @@ use denote.Param.Send.{IsSend, Quiet-if}
 use mir.Syntax.{of_param}
 use Rattle.std.proofs.Common.{rules}
 use Rattle.share_crew.proofs.Crossing.{taken_send}
-use Rattle.share_crew.proofs.beside.work_beside.Goals as goal
+use Rattle.share_crew.proofs.beside.run_with_partner.Goals as goal
 
 -- the workers may go to a thread, as their listeners may
 pub join_mut-requires-send-F : goal.join_mut-requires-send-F

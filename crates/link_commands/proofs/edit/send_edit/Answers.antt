@@ -6,7 +6,7 @@ use Rattle.link_commands.specs.declared.edit.EditFault.{EditFault}
 use Rattle.link_commands.specs.EditShare.{StopsSending}
 use Rattle.link_commands.specs.Linked.{LinkSeen, link_seen}
 use Rattle.link_commands.proofs.PushFacts.{reading_fault}
-use Rattle.link_commands.proofs.edit.sent.Goals as goal
+use Rattle.link_commands.proofs.edit.send_edit.Goals as goal
 
 -- the input was not read whole
 pub returns-in-Err-clause-stops : goal.returns-in-Err-clause-stops

@@ -3,7 +3,7 @@ use denote.Param.{param}
 use denote.Param.Send.{IsSend, Quiet-if}
 use mir.Syntax.{of_param}
 use Rattle.share_crew.proofs.Crossing.{taken_send}
-use Rattle.share_crew.proofs.beside.keep_beside.Goals as goal
+use Rattle.share_crew.proofs.beside.run_with_editor.Goals as goal
 
 -- the workers may go to a thread, as their listeners may
 pub join_mut-requires-send-F : goal.join_mut-requires-send-F

@@ -2,7 +2,7 @@ use Rattle.std.proofs.Common.{refl, inr}
 use Rattle.command_core.specs.Faults.{memory_line}
 use Rattle.command_core.specs.Seen.{OutputSeen, output_seen}
 use Rattle.share_crew.proofs.Telling.{told_behind}
-use Rattle.share_crew.proofs.opening.announced.Goals as goal
+use Rattle.share_crew.proofs.opening.write_and_lock.Goals as goal
 
 pub returns-in-Ok-open : goal.returns-in-Ok-open
 returns-in-Ok-open g c = (
