@@ -63,7 +63,10 @@ pub fn run<R: Threads + Wait + Clock + Sync, I: Source, W: Sink, F: Files, N: Ne
     ensures open_stays { N.open_count net.new ≡ N.open_count net.old }
 {
     match read_words(alloc, words) {
-        Ok(Command::Local(command)) => without_links(alloc, run_local(alloc, &command, input, output)),
+        Ok(Command::Local(command)) => without_links(
+            alloc,
+            run_local(alloc, &command, input, output),
+        ),
         Ok(Command::Net(command)) => { run_net(rt, alloc, command, input, output, files, net) }
         Err(WordsError::Usage) => {
             without_links(

@@ -12,7 +12,7 @@ mod outcome;
 mod partner;
 mod verdict;
 
-pub use beside::{run_with_editor, run_workers, run_with_partner};
+pub use beside::{run_with_editor, run_with_partner, run_workers};
 pub use gathering::{Gathered, gather, share_of};
 pub use hiring::add_workers;
 pub use lines::ended_line_of;

@@ -28,7 +28,7 @@ returns-in-Err-clause-stopped c =
     let front = c.loop-rest.invariant.front in
     let rest = c.loop-rest.rest.now in
     λ fed h known more.
-    ap (λ l. (Rattle.tag_commands.specs.TopTags.walked l).ending) (ap (λ l. (fed ++ l) ++ more) c.loop-rest.invariant.split ∙ ap (λ l. l ++ more) (sym (append_assoc fed front rest)))
+    ap (λ l. (Rattle.tag_commands.specs.TopTags.walk_of_tags l).ending) (ap (λ l. (fed ++ l) ++ more) c.loop-rest.invariant.split ∙ ap (λ l. l ++ more) (sym (append_assoc fed front rest)))
     ∙ c.in-Err.ensures.stopped (fed ++ front) (c.loop-rest.invariant.counted fed h) known more
 
 pub loop-rest-smaller : goal.loop-rest-smaller
