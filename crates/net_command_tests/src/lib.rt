@@ -12,6 +12,8 @@ mod known;
 #[cfg(test)]
 mod loopback;
 #[cfg(test)]
+mod meetings;
+#[cfg(test)]
 mod nets;
 #[cfg(test)]
 mod relays;
