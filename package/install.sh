@@ -1,12 +1,13 @@
 #!/bin/sh
 # install.sh PREFIX: installs what is beside this script at PREFIX, as /usr/local. Settings go to PREFIX/etc, and of PREFIX /usr
 # to /etc. A file of settings that is there stays as it is. DESTDIR, if it is set, is the root of the system that is installed to.
+# PREFIX has only characters that mean themselves in a unit of systemd.
 set -eu
 
 here=$(cd "$(dirname "$0")" && pwd)
 
 usage() {
-    echo "usage: install.sh PREFIX, an absolute path such as /usr/local" >&2
+    echo "usage: install.sh PREFIX, an absolute path of letters, digits and ./_+-, such as /usr/local" >&2
     exit 2
 }
 
@@ -52,7 +53,7 @@ if test $# -ne 1; then
     usage
 fi
 case $1 in
-/) usage ;;
+/ | *[!A-Za-z0-9./_+-]*) usage ;;
 /*) prefix=${1%/} ;;
 *) usage ;;
 esac
