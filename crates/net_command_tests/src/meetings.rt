@@ -1,7 +1,7 @@
 //! Runs of the program that meet on connections in memory: what the network of one reads is what the other wrote.
 //!
-//! What a client writes is known before. A share reads that, and then the client reads the share's replies. They met if
-//! the client wrote what the share read.
+//! A test knows before what a client will write. A share reads this, and then the client reads what the share replied.
+//! The two met if the client wrote what the share had read.
 
 ghost use Rattle.std.specs.Prelude.{◌<◌, IfOk};
 ghost use Rattle.outside_net.specs.MemListener.{IsNew as is_new_listener};
@@ -153,7 +153,8 @@ fn run_relay<R: Threads + Wait + Clock + Sync>(
     run(rt, alloc, &words, b"", net)
 }
 
-/// Returns what was written on the connection that was closed after `earlier` others.
+/// Returns what was written on the connection that was closed after `earlier` others. A share closes those of two players
+/// and then those of two editors, a relay those of two players and then its own.
 fn written(ran: &Ran, earlier: usize) -> &[u8] {
     let Some(links) = ran.net.written() else {
         return b"";
@@ -180,7 +181,7 @@ fn edit_of<R: Threads + Wait + Clock + Sync>(
     Vec::from_slice(alloc, written(&ran, 0))
 }
 
-/// Checks that `edit` met `share` as its second editor, and that its revision is 4.
+/// Checks that a run of `edit` for `change` met `share` as its second editor, and that it wrote revision 4.
 fn is_acknowledged<R: Threads + Wait + Clock + Sync + Abort>(
     rt: &R,
     alloc: Global,
@@ -282,7 +283,7 @@ fn ended_at(alloc: Global, count: usize) -> Result<String, AllocError> {
     format!(in alloc; "revision 3 full put 3 drop 0 rows 3\npeer: ended at {count}\n")
 }
 
-/// Serves a mirror of which the share reads all requests `sent` but the last 60 bytes, those of an update.
+/// Serves a mirror with the requests `sent`, of which the last is an update. Its last 60 bytes do not reach the share.
 fn serve_in_part<R: Threads + Wait + Clock + Sync>(
     rt: &R,
     alloc: Global,
@@ -359,7 +360,7 @@ struct Chain {
     mirror: Ran,
 }
 
-/// Relays `share` to a mirror. The relay reads byte by byte, so that it has its first listing for long.
+/// Relays `share` to a mirror. The relay reads byte by byte, so it takes long until it has the second listing.
 fn join<R: Threads + Wait + Clock + Sync>(
     rt: &R,
     alloc: Global,
@@ -370,7 +371,8 @@ fn join<R: Threads + Wait + Clock + Sync>(
     Ok(Chain { relay, mirror })
 }
 
-/// Returns whether the runs met, and the mirror was served before the relay's second listing.
+/// Returns whether the runs met, with the relay's first listing. If the mirror comes late, it gets the second, or the relay
+/// has ended.
 fn is_joined(chain: &Chain) -> bool {
     written(&chain.mirror, 0) == SECOND
         && chain.mirror.status == 0
@@ -391,7 +393,7 @@ fn join_at_last<R: Threads + Wait + Clock + Sync>(
     join(rt, alloc, share)
 }
 
-/// Returns records of a thousand songs, which a relay reads for long.
+/// Returns records of a thousand songs, whose listing a relay reads for long.
 fn many_songs(alloc: Global) -> Result<Vec<u8>, AllocError> {
     let name = "E".repeat(alloc, 250)?;
     let mut records = Vec::from_slice(alloc, b"op,kind,id,dmap.itemname\n")?;
@@ -408,6 +410,7 @@ fn follow_shows_what_a_relay_has_of_a_share(rt: HostRuntime) -> Result<(), Fail>
     let sent = relay_requests(&rt, alloc)?;
     let edit = edit_of(&rt, alloc, many_songs(alloc)?.as_slice())?;
     let share = serve_relay(&rt, alloc, sent.as_slice(), edit.as_slice())?;
+    assert_eq!(rt; share.status, 0);
     let chain = join_at_last(&rt, alloc, &share)?;
     assert_eq!(rt; written(&chain.relay, 2), sent.as_slice());
     assert_eq!(rt; written(&chain.mirror, 0), SECOND);
