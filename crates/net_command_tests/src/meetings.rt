@@ -40,10 +40,10 @@ mlcl list\n  mlit list\n    miid u32 7\n    minm text \"A\"\n  mlit list\n    mi
 /// What `follow` writes if its connection fails behind the first round.
 const FAILED: &[u8] = b"revision 3 full put 3 drop 0 rows 3\nnetwork failed\n";
 
-/// What `relay` writes of the songs and of a thousand more.
+/// What `relay` writes of the songs and of 14,000 more.
 const RELAYED: &[u8] = b"relaying daapshare\n\
 upstream 3 full puts 3 drops 0 revision 3\n\
-upstream 4 delta puts 1000 drops 0 revision 4\n\
+upstream 4 delta puts 14000 drops 0 revision 4\n\
 ended at revision 4, links 2, requests 6\n";
 
 const FOLLOW: [&str; 3] = ["follow", "here:3689", "2"];
@@ -68,7 +68,7 @@ fn link(alloc: Global, bytes: &[u8], per_read: usize) -> Result<MemLink, AllocEr
     ensures { IfOk result IsNew }
 {
     let source = MemSource::new(alloc, bytes, per_read, &[])?;
-    Ok(MemLink::new(source, MemSink::new(alloc, 1_048_576, 4096, &[])?))
+    Ok(MemLink::new(source, MemSink::new(alloc, 8_388_608, 4096, &[])?))
 }
 
 /// Returns a listener with two connections, one after the other.
@@ -393,11 +393,11 @@ fn join_at_last<R: Threads + Wait + Clock + Sync>(
     join(rt, alloc, share)
 }
 
-/// Returns records of a thousand songs, whose listing a relay reads for long.
+/// Returns records of 14,000 songs, whose listing a relay reads for long: an edit has at most 4 MiB.
 fn many_songs(alloc: Global) -> Result<Vec<u8>, AllocError> {
     let name = "E".repeat(alloc, 250)?;
     let mut records = Vec::from_slice(alloc, b"op,kind,id,dmap.itemname\n")?;
-    for id in 100..1100 {
+    for id in 100..14_100 {
         let row = format!(in alloc; "put,item,{id},{name}\n")?;
         records.extend_from_slice(row.as_bytes())?;
     }
