@@ -24,10 +24,6 @@ const SONGS: &[u8] = b"op,kind,id,dmap.itemname\nput,item,7,A\nput,item,8,B\nput
 const CHANGE: &[u8] =
     b"op,kind,id,dmap.itemname\nput,item,7,A\nput,item,8,D\ndrop,item,9,\nput,item,10,E\n";
 
-/// What `follow` writes of the songs, for one round.
-const BEFORE: &[u8] = b"revision 3 full put 3 drop 0 rows 3\n\
-mlcl list\n  mlit list\n    miid u32 7\n    minm text \"A\"\n  mlit list\n    miid u32 8\n    minm text \"B\"\n  mlit list\n    miid u32 9\n    minm text \"C\"\n";
-
 /// What `follow` writes of the songs and the change, for two rounds.
 const AROUND: &[u8] = b"revision 3 full put 3 drop 0 rows 3\n\
 revision 4 delta put 2 drop 1 rows 3\n\
@@ -40,12 +36,6 @@ mlcl list\n  mlit list\n    miid u32 7\n    minm text \"A\"\n  mlit list\n    mi
 /// What `follow` writes if its connection fails behind the first round.
 const FAILED: &[u8] = b"revision 3 full put 3 drop 0 rows 3\nnetwork failed\n";
 
-/// What `relay` writes of the songs and of 14,000 more.
-const RELAYED: &[u8] = b"relaying daapshare\n\
-upstream 3 full puts 3 drops 0 revision 3\n\
-upstream 4 delta puts 14000 drops 0 revision 4\n\
-ended at revision 4, links 2, requests 6\n";
-
 const FOLLOW: [&str; 3] = ["follow", "here:3689", "2"];
 
 const FOLLOW_ONCE: [&str; 3] = ["follow", "here:3689", "1"];
@@ -53,10 +43,6 @@ const FOLLOW_ONCE: [&str; 3] = ["follow", "here:3689", "1"];
 /// The requests of `follow` for one round, in the second session of a share.
 const SECOND: &[u8] =
     b"GET /content-codes HTTP/1.1\r\nHost: here:3689\r\nClient-DAAP-Version: 3.0\r\n\r\nGET /login HTTP/1.1\r\nHost: here:3689\r\nClient-DAAP-Version: 3.0\r\n\r\nGET /databases/1/items?session-id=2 HTTP/1.1\r\nHost: here:3689\r\nClient-DAAP-Version: 3.0\r\n\r\nGET /logout?session-id=2 HTTP/1.1\r\nHost: here:3689\r\nClient-DAAP-Version: 3.0\r\n\r\n";
-
-/// The requests of a player that waits until a relay has its first listing.
-const UNTIL_RELAYED: &[u8] =
-    b"GET /login HTTP/1.1\r\n\r\nGET /update?session-id=1&revision-number=2 HTTP/1.1\r\n\r\n";
 
 /// The requests of a player that waits until the songs are changed.
 const UNTIL_CHANGED: &[u8] =
@@ -68,7 +54,7 @@ fn link(alloc: Global, bytes: &[u8], per_read: usize) -> Result<MemLink, AllocEr
     ensures { IfOk result IsNew }
 {
     let source = MemSource::new(alloc, bytes, per_read, &[])?;
-    Ok(MemLink::new(source, MemSink::new(alloc, 8_388_608, 4096, &[])?))
+    Ok(MemLink::new(source, MemSink::new(alloc, 1_048_576, 4096, &[])?))
 }
 
 /// Returns a listener with two connections, one after the other.
@@ -133,28 +119,8 @@ fn run_share<R: Threads + Wait + Clock + Sync>(
     run(rt, alloc, &words, SONGS, net)
 }
 
-/// Relays a share with the replies `input` to two players, one after the other. A read returns at most `per_read` bytes
-/// of the replies.
-fn run_relay<R: Threads + Wait + Clock + Sync>(
-    rt: &R,
-    alloc: Global,
-    input: &[u8],
-    per_read: usize,
-    waiting: &[u8],
-    player: &[u8],
-) -> Result<Ran, AllocError>
-    requires { 0 < per_read }
-{
-    let mut net = MemNet::with_room(alloc, &[], 2, 4)?;
-    net.add_link(link(alloc, input, per_read)?)?;
-    net.add_listener(listener(alloc, waiting, player)?)?;
-    net.add_listener(MemListener::new(alloc, &[], 1)?)?;
-    let words = ["relay", "there:3689", "here:3689", "2", "--workers=1"];
-    run(rt, alloc, &words, b"", net)
-}
-
 /// Returns what was written on the connection that was closed after `earlier` others. A share closes those of two players
-/// and then those of two editors, a relay those of two players and then its own.
+/// and then those of two editors.
 fn written(ran: &Ran, earlier: usize) -> &[u8] {
     let Some(links) = ran.net.written() else {
         return b"";
@@ -324,96 +290,4 @@ fn a_connection_that_lost_the_end_of_a_delta_ends_the_lines(rt: HostRuntime) -> 
     assert_eq!(rt; written(&met.mirror, 0), sent.as_slice());
     let text = ended_at(alloc, written(&met.share, 1).len().saturating_sub(1))?;
     has_told(&rt, &met.mirror, 7, text.as_bytes())
-}
-
-/// Returns what `relay` writes to a share with an edit between its two rounds.
-fn relay_requests<R: Threads + Wait + Clock + Sync>(
-    rt: &R,
-    alloc: Global,
-) -> Result<Vec<u8>, AllocError> {
-    let input = replies(alloc, "codes login item revision dropped done")?;
-    let ran = run_relay(rt, alloc, input.as_slice(), 4096, b"", b"")?;
-    Vec::from_slice(alloc, written(&ran, 2))
-}
-
-/// Serves a relay with the requests `sent`, until the edit comes between its rounds.
-fn serve_relay<R: Threads + Wait + Clock + Sync>(
-    rt: &R,
-    alloc: Global,
-    sent: &[u8],
-    edit: &[u8],
-) -> Result<Ran, AllocError> {
-    for tries in 1..100 {
-        let share = serve_beside(rt, alloc, sent, edit, tries)?;
-        let relay = run_relay(rt, alloc, written(&share, 1), 4096, b"", b"")?;
-        if written(&relay, 2) == sent {
-            return Ok(share);
-        }
-    }
-    serve_beside(rt, alloc, sent, edit, 100)
-}
-
-/// A run of `relay` and one of `follow`, which may have met.
-#[derive(Drop)]
-struct Chain {
-    relay: Ran,
-    mirror: Ran,
-}
-
-/// Relays `share` to a mirror. The relay reads byte by byte, so it takes long until it has the second listing.
-fn join<R: Threads + Wait + Clock + Sync>(
-    rt: &R,
-    alloc: Global,
-    share: &Ran,
-) -> Result<Chain, AllocError> {
-    let relay = run_relay(rt, alloc, written(share, 1), 1, UNTIL_RELAYED, SECOND)?;
-    let mirror = run_client(rt, alloc, &FOLLOW_ONCE, b"", written(&relay, 1))?;
-    Ok(Chain { relay, mirror })
-}
-
-/// Returns whether the runs met, with the relay's first listing. If the mirror comes late, it gets the second, or the relay
-/// has ended.
-fn is_joined(chain: &Chain) -> bool {
-    written(&chain.mirror, 0) == SECOND
-        && chain.mirror.status == 0
-        && chain.mirror.output.as_slice().starts_with(b"revision 3 ")
-}
-
-fn join_at_last<R: Threads + Wait + Clock + Sync>(
-    rt: &R,
-    alloc: Global,
-    share: &Ran,
-) -> Result<Chain, AllocError> {
-    for _ in 1..100 {
-        let chain = join(rt, alloc, share)?;
-        if is_joined(&chain) {
-            return Ok(chain);
-        }
-    }
-    join(rt, alloc, share)
-}
-
-/// Returns records of 14,000 songs, whose listing a relay reads for long: an edit has at most 4 MiB.
-fn many_songs(alloc: Global) -> Result<Vec<u8>, AllocError> {
-    let name = "E".repeat(alloc, 250)?;
-    let mut records = Vec::from_slice(alloc, b"op,kind,id,dmap.itemname\n")?;
-    for id in 100..14_100 {
-        let row = format!(in alloc; "put,item,{id},{name}\n")?;
-        records.extend_from_slice(row.as_bytes())?;
-    }
-    Ok(records)
-}
-
-#[test]
-fn follow_shows_what_a_relay_has_of_a_share(rt: HostRuntime) -> Result<(), Fail> {
-    let alloc = rt.alloc();
-    let sent = relay_requests(&rt, alloc)?;
-    let edit = edit_of(&rt, alloc, many_songs(alloc)?.as_slice())?;
-    let share = serve_relay(&rt, alloc, sent.as_slice(), edit.as_slice())?;
-    assert_eq!(rt; share.status, 0);
-    let chain = join_at_last(&rt, alloc, &share)?;
-    assert_eq!(rt; written(&chain.relay, 2), sent.as_slice());
-    assert_eq!(rt; written(&chain.mirror, 0), SECOND);
-    has_told(&rt, &chain.relay, 0, RELAYED)?;
-    has_told(&rt, &chain.mirror, 0, BEFORE)
 }
